@@ -1,0 +1,54 @@
+-- A sound store: what every call may go by once refusals 1 and 3 are behind it.
+use mathlib.Core.Bool.{Bool, _&&_}
+use Prim.Native.Nat.{ℕ, zero, suc, _≤_, _<_}
+use native.Mathlib.Omega.{arith}
+use lib.Dec.{T, leb, leb→le}
+use lib.ListN.{getD}
+use Rattle.model.specs.Numbers.{widthFits}
+use Rattle.model.specs.Clocks.{clockOf}
+use Rattle.model.specs.Follow.{indexAt, tallies, eventAt, followTo}
+use Rattle.model.specs.Store.{Store, clocksOf, talliesOf, valid}
+use Rattle.model.specs.Cuts.{Contains}
+use Rattle.model.proofs.Tests.{and-left, and-right}
+use Rattle.model.proofs.Follow.{Follows}
+use Rattle.model.proofs.Causal.{Causal}
+use Rattle.model.proofs.Valid.{contained-at, follow-at, follow-prefix, causal-of-valid}
+
+pub record Sound (s : Store) : Type 0 where
+  pub some : 1 ≤ s .tablets
+  pub narrow : s .tablets ≤ 8
+  pub total : s .events ≤ 2032
+  pub follow : T (followTo (s .tablets) (clocksOf s) (s .order) (s .events))
+
+pub sound : (s : Store) → T (widthFits (s .tablets)) → T (valid s) → Sound s
+unfolding valid
+sound s w v =
+    let few : T (leb (s .events) 2032) = and-left (leb (s .events) 2032) (followTo (s .tablets) (clocksOf s) (s .order) (s .events)) v in
+    record {
+      some = leb→le 1 (s .tablets) (and-left (leb 1 (s .tablets)) (leb (s .tablets) 8) w);
+      narrow = leb→le (s .tablets) 8 (and-right (leb 1 (s .tablets)) (leb (s .tablets) 8) w);
+      total = leb→le (s .events) 2032 few;
+      follow = and-right (leb (s .events) 2032) (followTo (s .tablets) (clocksOf s) (s .order) (s .events)) v;
+    }
+
+module _ (s : Store) (snd : Sound s) where
+  -- after each position the clocks are causal
+  pub causal-at : (p : ℕ) → p ≤ s .events → Causal (clocksOf s) (tallies (s .order) p)
+  causal-at p h =
+      causal-of-valid (s .tablets) (snd .narrow) (clocksOf s) (s .order) p
+      (follow-prefix (s .tablets) (clocksOf s) (s .order) p (s .events) h (snd .follow))
+
+  -- each event of the store may follow those before it
+  pub follows-at : (q : ℕ) → q < s .events → Follows (s .tablets) (clocksOf s) (tallies (s .order) q) (getD (s .order) q 0) (clockOf (clocksOf s) (eventAt (s .order) q))
+  follows-at q h =
+      follow-at (s .tablets) (clocksOf s) (s .order) q
+      (follow-prefix (s .tablets) (clocksOf s) (s .order) (suc q) (s .events) h (snd .follow))
+
+  pub index-fits : (q : ℕ) → q < s .events → indexAt (s .order) q < 8
+  index-fits q h = omega (arith, follows-at q h .positive, follows-at q h .tablet, snd .narrow)
+
+  -- the event at a position is of the trace up to it
+  pub event-contained : (q : ℕ) → q < s .events → Contains (tallies (s .order) (suc q)) (eventAt (s .order) q)
+  event-contained q h =
+      contained-at (s .tablets) (snd .narrow) (clocksOf s) (s .order) q
+      (follow-prefix (s .tablets) (clocksOf s) (s .order) (suc q) (s .events) h (snd .follow))

@@ -1,0 +1,141 @@
+-- The starred cases of document 01, "Traces to check against", as one table of tests on stores with full-size buffers.
+use Prim.Native.Nat.{ℕ, suc}
+use mathlib.Core.Bool.{Bool, true, false, not, _&&_}
+use mathlib.Core.List.{List, [], _∷_, map}
+use lib.Dec.{eqb}
+use lib.ListN.{length, replicate}
+use Rattle.model.specs.declared.Event.{Event}
+use Rattle.model.specs.declared.Question.{Question}
+use Rattle.model.specs.declared.Question.the-variants.{AtLeast, Exactly, All}
+use Rattle.model.specs.declared.Range.the-variants.{Whole}
+use Rattle.model.specs.Lists.{at, eight, allBelow}
+use Rattle.model.specs.Follow.{tallies}
+use Rattle.model.specs.Store.{Store, clocksOf, talliesOf, valid, accepted, eventRefusal}
+use Rattle.model.specs.Cuts.{consistent, interval, allCuts, total}
+use Rattle.model.specs.Questions.{meets, Witness, answer}
+
+-- a cut or clock as document 01 writes it, without the zeros behind
+abbrev pub wide : List ℕ → List ℕ
+wide entries = eight (at entries)
+
+-- "tablet/clock/held"
+abbrev pub event : ℕ → List ℕ → ℕ → Event
+event tablet clock held = record { tablet = record { 0 = tablet }; clock = wide clock; held = held }
+
+abbrev pub opened : ℕ → Store
+opened n =
+    record { tablets = n; events = 0; clocks = replicate 16256 0; held = replicate 2032 0; order = replicate 2032 0 }
+
+-- the store after some events, none of which is tested here
+abbrev pub afterAll : Store → List Event → Store
+afterAll s [] = s
+afterAll s (e ∷ es) = afterAll (accepted s e) es
+
+abbrev pub day : ℕ → List Event → Store
+day n es = afterAll (opened n) es
+
+abbrev pub same : List ℕ → List ℕ → Bool
+same [] [] = true
+same [] (y ∷ ys) = false
+same (x ∷ xs) [] = false
+same (x ∷ xs) (y ∷ ys) = eqb x y && same xs ys
+
+abbrev pub sameCuts : List (List ℕ) → List (List ℕ) → Bool
+sameCuts [] [] = true
+sameCuts [] (H ∷ Hs) = false
+sameCuts (G ∷ Gs) [] = false
+sameCuts (G ∷ Gs) (H ∷ Hs) = same G (wide H) && sameCuts Gs Hs
+
+-- the counts of intervals 0 to 4
+abbrev pub counts : Store → List ℕ
+counts s = map (λ p. length (interval s p)) (0 ∷ 1 ∷ 2 ∷ 3 ∷ 4 ∷ [])
+
+abbrev pub asked : Store → Question → Witness
+asked s q = answer s (record { question = q; range = Whole })
+
+abbrev pub found : Witness → List ℕ → Bool
+found w G = w .found && same (w .cut) (wide G)
+
+abbrev pub none : Witness → Bool
+none w = not (w .found) && same (w .cut) (wide [])
+
+-- "Trace A, in order tablet/clock/held: 1/1,0/1; 2/0,1/0; 1/2,0/0; 2/2,2/1. Trace B: 1/1,0/1; 1/2,0/0; 2/0,1/1; 2/0,2/0."
+abbrev pub a1 : Event
+a1 = event 1 (1 ∷ 0 ∷ []) 1
+
+abbrev pub a2 : Event
+a2 = event 2 (0 ∷ 1 ∷ []) 0
+
+abbrev pub a3 : Event
+a3 = event 1 (2 ∷ 0 ∷ []) 0
+
+abbrev pub a4 : Event
+a4 = event 2 (2 ∷ 2 ∷ []) 1
+
+abbrev pub traceA : Store
+traceA = day 2 (a1 ∷ a2 ∷ a3 ∷ a4 ∷ [])
+
+abbrev pub traceA-by-tablet : Store
+traceA-by-tablet = day 2 (a1 ∷ a3 ∷ a2 ∷ a4 ∷ [])
+
+abbrev pub traceB : Store
+traceB =
+    day 2
+    (event 1 (1 ∷ 0 ∷ []) 1 ∷ event 1 (2 ∷ 0 ∷ []) 0 ∷ event 2 (0 ∷ 1 ∷ []) 1 ∷ event 2 (0 ∷ 2 ∷ []) 0 ∷ [])
+
+abbrev pub quiet : Store
+quiet = day 3 []
+
+abbrev pub handover : Store
+handover = day 3 (event 1 (1 ∷ 0 ∷ 0 ∷ []) 0 ∷ event 2 (1 ∷ 1 ∷ 0 ∷ []) 0 ∷ [])
+
+abbrev pub cutsOfA : List (List ℕ)
+cutsOfA =
+    (0 ∷ 0 ∷ []) ∷ (0 ∷ 1 ∷ []) ∷ (1 ∷ 0 ∷ []) ∷ (1 ∷ 1 ∷ []) ∷ (2 ∷ 0 ∷ []) ∷ (2 ∷ 1 ∷ []) ∷ (2 ∷ 2 ∷ []) ∷ []
+
+-- no prefix of the trace's own order meets the question
+abbrev pub noPrefix : Store → Question → Bool
+noPrefix s q =
+    allBelow (suc (s .events)) (λ p. not (meets s q (tallies (s .order) p)))
+
+abbrev pub table : List Bool
+table =
+    -- A: cuts 0,0 0,1 1,0 1,1 2,0 2,1 2,2; intervals 1,1,2,2,1.
+    valid traceA
+    ∷ sameCuts (allCuts traceA) cutsOfA
+    ∷ same (counts traceA) (1 ∷ 1 ∷ 2 ∷ 2 ∷ 1 ∷ [])
+    ∷ eqb (total traceA) 7
+    -- A's events in tablet order 1,1,2,2: intervals 1,1,1,3,1.
+    ∷ valid traceA-by-tablet
+    ∷ sameCuts (allCuts traceA-by-tablet) cutsOfA
+    ∷ same (counts traceA-by-tablet) (1 ∷ 1 ∷ 1 ∷ 3 ∷ 1 ∷ [])
+    -- A: 0,2 and 1,2 are not consistent.
+    ∷ not (consistent (clocksOf traceA) (talliesOf traceA) (wide (0 ∷ 2 ∷ [])))
+    ∷ not (consistent (clocksOf traceA) (talliesOf traceA) (wide (1 ∷ 2 ∷ [])))
+    -- A: at least 2, none; exactly 0 gives 0,0; set {2} gives 2,2.
+    ∷ none (asked traceA (AtLeast 2))
+    ∷ found (asked traceA (Exactly 0)) (0 ∷ 0 ∷ [])
+    ∷ found (asked traceA (All 2)) (2 ∷ 2 ∷ [])
+    -- B: 9 cuts; at least 2 gives 1,1, though no prefix of B's own order has it.
+    ∷ valid traceB
+    ∷ eqb (length (allCuts traceB)) 9
+    ∷ found (asked traceB (AtLeast 2)) (1 ∷ 1 ∷ [])
+    ∷ noPrefix traceB (AtLeast 2)
+    -- n=3, no events: one cut; at least 1, none.
+    ∷ valid quiet
+    ∷ eqb (length (allCuts quiet)) 1
+    ∷ none (asked quiet (AtLeast 1))
+    -- After A's first two, 2/2,2 is refused 6. After A's first, 1/3,0 and 1/1,0 are refused 5.
+    ∷ eqb (eventRefusal (day 2 (a1 ∷ a2 ∷ [])) (event 2 (2 ∷ 2 ∷ []) 1)) 6
+    ∷ eqb (eventRefusal (day 2 (a1 ∷ [])) (event 1 (3 ∷ 0 ∷ []) 0)) 5
+    ∷ eqb (eventRefusal (day 2 (a1 ∷ [])) (event 1 (1 ∷ 0 ∷ []) 0)) 5
+    -- n=3 after 1/1,0,0 and 2/1,1,0: 3/0,1,1 is refused 7, as is 2/0,2,0; 3/1,1,1 is accepted.
+    ∷ valid handover
+    ∷ eqb (eventRefusal handover (event 3 (0 ∷ 1 ∷ 1 ∷ []) 0)) 7
+    ∷ eqb (eventRefusal handover (event 2 (0 ∷ 2 ∷ 0 ∷ []) 0)) 7
+    ∷ eqb (eventRefusal handover (event 3 (1 ∷ 1 ∷ 1 ∷ []) 0)) 0
+    ∷ []
+
+abbrev pub passed : List Bool → Bool
+passed [] = true
+passed (test ∷ tests) = test && passed tests

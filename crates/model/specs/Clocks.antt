@@ -1,0 +1,33 @@
+-- Document 01, "The store": the clock of an event, and when one list of entries covers another.
+use Prim.Native.Nat.{ℕ, zero, suc, _*_}
+use mathlib.Core.Bool.{Bool}
+use mathlib.Core.List.{List}
+use lib.Dec.{leb}
+use lib.ListN.{take, drop}
+use Rattle.model.specs.Lists.{at, zeros, allBelow}
+use Rattle.model.specs.Numbers.{slot}
+
+-- an event by the index of its tablet and its number there, from 1
+pub record EventName : Type 0 where
+  pub tablet : ℕ
+  pub number : ℕ
+
+-- the clocks of a trace, by tablet index and event number: the mathematics is over any such function
+abbrev pub Clocks : Type 0
+Clocks = ℕ → ℕ → List ℕ
+
+abbrev pub clockOf : Clocks → EventName → List ℕ
+clockOf clk e = clk (e .tablet) (e .number)
+
+-- "clocks: 16,256 bytes; slot s at bytes 8s to 8s+7."
+unfoldable pub clockAt : List ℕ → Clocks
+clockAt bytes j k = take 8 (drop (8 * slot j k) bytes)
+
+-- "at most .. in each entry": U is at most W in each of the eight entries
+unfoldable pub covered : List ℕ → List ℕ → Bool
+covered U W = allBelow 8 (λ j. leb (at U j) (at W j))
+
+-- what is known at event k of tablet j: its clock; where there is no event yet (k is 0), nothing
+abbrev pub known : Clocks → Clocks
+known clk j zero = zeros
+known clk j (suc k) = clk j (suc k)

@@ -1,0 +1,65 @@
+-- Document 01, "Cuts and intervals". A cut is its list of eight entries.
+use Prim.Native.Nat.{ℕ, zero, suc, _≤_, _<_}
+use mathlib.Core.Bool.{Bool, _&&_}
+use mathlib.Core.List.{List, [], _∷_, _++_, map}
+use lib.ListN.{length}
+use Rattle.model.specs.declared.Range.{Range}
+use Rattle.model.specs.declared.Range.the-variants.{Interval, Whole}
+use Rattle.model.specs.Lists.{at, zeros, allBelow, sumBelow, keep}
+use Rattle.model.specs.Clocks.{Clocks, EventName, clockOf, covered, known}
+use Rattle.model.specs.Follow.{eventAt, tallies}
+use Rattle.model.specs.Store.{Store, clocksOf, talliesOf}
+
+-- "Entry G[i] means events 1 to G[i] of tablet i": the cut G contains event e. The events of a trace are those that its
+-- tallies contain.
+pub record Contains (G : List ℕ) (e : EventName) : Type 0 where
+  pub tablet : e .tablet < 8
+  pub first : 1 ≤ e .number
+  pub last : e .number ≤ at G (e .tablet)
+
+-- "for each i with G[i] > 0, the clock of event G[i] of tablet i is at most G in each entry"
+unfoldable pub closed : Clocks → List ℕ → Bool
+closed clk G = allBelow 8 (λ j. covered (known clk j (at G j)) G)
+
+-- "G is consistent when each G[i] is at most the tally and, .." (above)
+unfoldable pub consistent : Clocks → List ℕ → List ℕ → Bool
+consistent clk tal G = covered G tal && closed clk G
+
+-- every vector up to a bound, lexically rising: the first entry from 0 to its bound, each with every vector of the rest
+abbrev pub rows : ℕ → List (List ℕ) → List (List ℕ)
+rows zero rest = map (λ G. 0 ∷ G) rest
+rows (suc b) rest = rows b rest ++ map (λ G. suc b ∷ G) rest
+
+abbrev pub box : List ℕ → List (List ℕ)
+box [] = [] ∷ []
+box (b ∷ bs) = rows b (box bs)
+
+-- the consistent cuts G with low <= G <= high in each entry, in order
+unfoldable pub range : Clocks → List ℕ → List ℕ → List (List ℕ)
+range clk low high = keep (λ G. covered low G && consistent clk high G) (box high)
+
+-- "Gmin is the clock of the event at p, Gbnd the tallies after position p"; for interval 0 both are the empty cut
+abbrev pub gmin : Store → ℕ → List ℕ
+gmin s zero = zeros
+gmin s (suc q) = clockOf (clocksOf s) (eventAt (s .order) q)
+
+abbrev pub gbnd : Store → ℕ → List ℕ
+gbnd s p = tallies (s .order) p
+
+-- "Interval p, for p in 1 to T, is the consistent cuts G with Gmin <= G <= Gbnd in each entry"; "interval 0 holds the
+-- empty cut and nothing else"
+unfoldable pub interval : Store → ℕ → List (List ℕ)
+interval s p = range (clocksOf s) (gmin s p) (gbnd s p)
+
+-- every consistent cut of the trace, found by testing every vector up to the tallies
+unfoldable pub allCuts : Store → List (List ℕ)
+allCuts s = keep (consistent (clocksOf s) (talliesOf s)) (box (talliesOf s))
+
+-- the sum of the counts of intervals 0 to T
+unfoldable pub total : Store → ℕ
+total s = sumBelow (suc (s .events)) (λ p. length (interval s p))
+
+-- "Over one interval or the whole trace"
+abbrev pub cutsIn : Store → Range → List (List ℕ)
+cutsIn s (Interval p) = interval s (p .0)
+cutsIn s Whole = allCuts s

@@ -1,0 +1,15 @@
+-- Happened-before (document 004): the least relation that has the order of events on one tablet and what an event knows
+-- directly, and is transitive.
+use mathlib.Core.Path.{_≡_}
+use mathlib.Core.Logic.{_≢_}
+use Prim.Native.Nat.{ℕ, _≤_, _<_}
+use Rattle.model.specs.Lists.{at}
+use Rattle.model.specs.Clocks.{Clocks, EventName, clockOf}
+
+pub data HappenedBefore (clk : Clocks) : EventName → EventName → Type 0 where
+  -- earlier on the same tablet
+  earlier : {e f : EventName} → e .tablet ≡ f .tablet → 1 ≤ e .number → e .number < f .number → HappenedBefore clk e f
+  -- f's clock names e as the last event of another tablet that f knows
+  told : {e f : EventName} → e .tablet < 8 → e .tablet ≢ f .tablet → 1 ≤ e .number → at (clockOf clk f) (e .tablet) ≡ e .number → HappenedBefore clk e f
+  -- through a third event
+  through : {e f : EventName} (d : EventName) → HappenedBefore clk e d → HappenedBefore clk d f → HappenedBefore clk e f

@@ -1,0 +1,66 @@
+-- Document 01, "The store": a record with its three lent buffers, opening, accepting, and when a store is valid.
+use Prim.Native.Nat.{ℕ, _+_, _-_, _*_}
+use mathlib.Core.Bool.{Bool, not, cond, _&&_, _||_}
+use mathlib.Core.List.{List}
+use lib.Dec.{leb, ltb}
+use lib.ListN.{length, getD, set}
+use lib.Seq.{sets}
+use Rattle.model.specs.declared.Record.{Record}
+use Rattle.model.specs.declared.Event.{Event}
+use Rattle.model.specs.Numbers.{widthFits, slot, index}
+use Rattle.model.specs.Clocks.{Clocks, EventName, clockAt}
+use Rattle.model.specs.Follow.{tally, tallies, mayFollow, followTo}
+
+-- "A record (n, T) goes with three lent buffers"
+pub record Store : Type 0 where
+  pub tablets : ℕ
+  pub events : ℕ
+  pub clocks : List ℕ
+  pub held : List ℕ
+  pub order : List ℕ
+
+abbrev pub storeOf : Record → List ℕ → List ℕ → List ℕ → Store
+storeOf r clocks held order =
+    record { tablets = r .tablets; events = r .events; clocks = clocks; held = held; order = order }
+
+abbrev pub clocksOf : Store → Clocks
+clocksOf s = clockAt (s .clocks)
+
+-- "held: 2,032 numbers of 16 bits, one a slot"
+abbrev pub heldOf : Store → EventName → ℕ
+heldOf s e = getD (s .held) (slot (e .tablet) (e .number)) 0
+
+-- the tallies now
+abbrev pub talliesOf : Store → List ℕ
+talliesOf s = tallies (s .order) (s .events)
+
+-- "always of full size; a longer tail is neither read nor touched": the bytes of clocks, the numbers of held, the bytes of order
+unfoldable pub fullSize : Store → Bool
+fullSize s = leb 16256 (length (s .clocks)) && leb 2032 (length (s .held)) && leb 2032 (length (s .order))
+
+-- "A store is valid when T is at most 2,032 and its events, taken in order from none, each may follow."
+unfoldable pub valid : Store → Bool
+valid s = leb (s .events) 2032 && followTo (s .tablets) (clocksOf s) (s .order) (s .events)
+
+-- "Each call that takes a store tests this, after refusals 1 and 2 and before all else": 0 where it passes
+unfoldable pub storeRefusal : Store → ℕ
+storeRefusal s = cond (not (widthFits (s .tablets))) 1 (cond (not (fullSize s)) 2 (cond (not (valid s)) 3 0))
+
+-- "Accepting an event writes its slot's clock and held value and the next order byte, and gives T+1; every other place is
+-- untouched."
+abbrev pub nextSlot : Store → Event → ℕ
+nextSlot s e = slot (index (e .tablet)) (tally (s .order) (s .events) (index (e .tablet)) + 1)
+
+unfoldable pub accepted : Store → Event → Store
+accepted s e =
+    record {
+      tablets = s .tablets;
+      events = s .events + 1;
+      clocks = sets (s .clocks) (8 * nextSlot s e) (e .clock);
+      held = set (s .held) (nextSlot s e) (e .held);
+      order = set (s .order) (s .events) (e .tablet .0);
+    }
+
+-- the refusal of an event offered to a store, or 0
+unfoldable pub eventRefusal : Store → Event → ℕ
+eventRefusal s e = mayFollow (s .tablets) (clocksOf s) (talliesOf s) (e .tablet .0) (e .clock)
