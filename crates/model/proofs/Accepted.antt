@@ -1,22 +1,22 @@
 -- Theorem 10: accepting an event that may follow leaves a valid store of T + 1 events, with all earlier events as they were.
 use mathlib.Core.Path.{_≡_, refl, sym, ap, _∙_, subst, subst₃}
 use mathlib.Core.Logic.{_≢_, by-cases}
-use mathlib.Core.Bool.{Bool, true, false, cond, _&&_}
+use mathlib.Core.Bool.{_&&_}
 use mathlib.Core.List.{List}
 use Prim.Native.Nat.{ℕ, zero, suc, _+_, _-_, _*_, _≤_, _<_}
 use native.Mathlib.Omega.{arith}
 use native.Mathlib.Numerals.{add-one}
 use native.Mathlib.Decide.{ℕ-discrete}
 use borrow.Author.Tests.{eq-eqb, ne-eqb}
-use lib.Dec.{T, leb, eqb, leb→le, le→leb}
-use lib.ListN.{length, getD, set, length-set}
-use lib.Seq.{sets, getD-set-same, getD-set-other, length-sets}
+use lib.Dec.{T, leb, leb→le, le→leb}
+use lib.ListN.{length, getD, length-set}
+use lib.Seq.{getD-set-same, getD-set-other, length-sets}
 use Rattle.model.specs.declared.Event.{Event}
 use Rattle.model.specs.Lists.{at}
 use Rattle.model.specs.Numbers.{slot, index}
-use Rattle.model.specs.Clocks.{Clocks, EventName, clockOf, known}
-use Rattle.model.specs.Follow.{indexAt, tally, tallies, eventAt, lastKnown, mayFollow, followTo}
-use Rattle.model.specs.Store.{Store, clocksOf, heldOf, talliesOf, fullSize, valid, nextSlot, accepted, eventRefusal}
+use Rattle.model.specs.Clocks.{Clocks, EventName, clockOf}
+use Rattle.model.specs.Follow.{indexAt, tally, tallies, eventAt, lastKnown, followTo}
+use Rattle.model.specs.Store.{Store, clocksOf, heldOf, talliesOf, fullSize, nextSlot, accepted, eventRefusal}
 use Rattle.model.specs.Cuts.{Contains}
 use Rattle.model.specs.Agree.{AgreeTo}
 use Rattle.model.proofs.Tests.{and-left, and-right, and-both}

@@ -1,29 +1,28 @@
 -- Theorems 7 and 8: cuts do not depend on the order of acceptance, and an interval only on the events up to it.
 use mathlib.Core.Path.{_≡_, refl, sym, ap, ap₂, _∙_, subst}
-use mathlib.Core.Logic.{_≢_, by-cases}
-use mathlib.Core.Bool.{Bool, true, false, cond, _&&_}
-use mathlib.Core.List.{List, [], _∷_, List·Memᴰ}
+use mathlib.Core.Logic.{by-cases}
+use mathlib.Core.Bool.{Bool, true, cond, _&&_}
+use mathlib.Core.List.{List}
 use Prim.Native.Nat.{ℕ, zero, suc, _+_, _-_, _≤_, _<_}
 use native.Mathlib.Omega.{arith}
 use native.Mathlib.Decide.{decLe}
-use lib.Dec.{T, leb, eqb}
+use lib.Dec.{leb, eqb}
 use lib.ListN.{length, getD}
 use Rattle.model.specs.declared.Question.{Question}
 use Rattle.model.specs.declared.Question.the-variants.{AtLeast, Exactly, All}
 use Rattle.model.specs.declared.Position.{Position}
 use Rattle.model.specs.declared.Range.the-variants.{Interval}
-use Rattle.model.specs.Lists.{at, zeros, keep, allBelow, sumBelow}
+use Rattle.model.specs.Lists.{at, keep}
 use Rattle.model.specs.Clocks.{Clocks, EventName, clockOf, covered, known}
 use Rattle.model.specs.Follow.{indexAt, tally, tallies, eventAt}
-use Rattle.model.specs.Store.{Store, clocksOf, heldOf, talliesOf}
+use Rattle.model.specs.Store.{Store, clocksOf, talliesOf}
 use Rattle.model.specs.Cuts.{Contains, consistent, box, range, gmin, gbnd, interval, allCuts, total}
 use Rattle.model.specs.Agree.{AgreeTo, SameEvents}
 use Rattle.model.specs.Questions.{holding, sumHeld, names, meets, firstOf, answer}
 use Rattle.model.proofs.Tests.{same-test, allBelow-same, sumBelow-same}
-use Rattle.model.proofs.Entries.{AtMost}
-use Rattle.model.proofs.Lists.{keep-from, keep-same}
-use Rattle.model.proofs.Box.{box-from}
-use Rattle.model.proofs.Ranges.{Consistent, consistent-holds, holds-consistent, range-from}
+use Rattle.model.proofs.Entries.{AtMost, same-entries}
+use Rattle.model.proofs.Lists.{keep-same}
+use Rattle.model.proofs.Ranges.{Consistent, consistent-holds, holds-consistent}
 use Rattle.model.proofs.Causal.{event}
 use Rattle.model.proofs.Valid.{at-tallies, length-tallies}
 use Rattle.model.proofs.Sound.{Sound, event-contained}
@@ -82,7 +81,7 @@ tally-same order other (suc p) f j =
 
 pub tallies-same : (order other : List ℕ) (p : ℕ) → ((q : ℕ) → q < p → getD order q 0 ≡ getD other q 0) → tallies order p ≡ tallies other p
 tallies-same order other p f =
-    Rattle.model.proofs.Entries.same-entries (tallies order p) (tallies other p) (length-tallies order p) (length-tallies other p)
+    same-entries (tallies order p) (tallies other p) (length-tallies order p) (length-tallies other p)
     (λ j h. at-tallies order p j h ∙ tally-same order other p f j ∙ sym (at-tallies other p j h))
 
 pub event-same : (order other : List ℕ) (q : ℕ) → ((p : ℕ) → p < suc q → getD order p 0 ≡ getD other p 0) → eventAt order q ≡ eventAt other q

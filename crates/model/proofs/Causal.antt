@@ -1,15 +1,15 @@
 -- What the clocks of a valid trace have, for the events that the tallies contain. Every theorem on cuts is over this.
-use mathlib.Core.Path.{_≡_, refl, sym, _∙_, subst}
+use mathlib.Core.Path.{_≡_, sym, subst}
 use mathlib.Core.Logic.{_≢_, by-cases}
 use mathlib.Core.List.{List}
 use Prim.Native.Nat.{ℕ, zero, suc, _≤_, _<_}
 use native.Mathlib.Omega.{arith}
 use native.Mathlib.Decide.{ℕ-discrete}
 use Rattle.model.specs.Lists.{at}
-use Rattle.model.specs.Clocks.{Clocks, EventName, clockOf, known}
+use Rattle.model.specs.Clocks.{Clocks, EventName, clockOf}
 use Rattle.model.specs.Cuts.{Contains}
 use Rattle.model.proofs.Entries.{AtMost, at-most-refl, at-most-trans}
-use Rattle.model.proofs.Ranges.{known-at-most, Closed, Consistent}
+use Rattle.model.proofs.Ranges.{known-event, known-at-most, Consistent}
 
 pub record Causal (clk : Clocks) (tal : List ℕ) : Type 0 where
   -- an event's own entry is its number
@@ -69,6 +69,6 @@ module _ (clk : Clocks) (tal : List ℕ) (causal : Causal clk tal) where
   -- a closed cut contains what its events know
   pub closed-has : (G : List ℕ) → Consistent clk tal G → (e : EventName) → Contains G e → AtMost (clockOf clk e) G
   closed-has G c e ce =
-      let top : AtMost (clk (e .tablet) (at G (e .tablet))) G = subst (λ (X : List ℕ). AtMost X G) (Rattle.model.proofs.Ranges.known-event clk (e .tablet) (at G (e .tablet)) (omega (arith, ce .first, ce .last))) (c .known-in (e .tablet) (ce .tablet)) in
+      let top : AtMost (clk (e .tablet) (at G (e .tablet))) G = subst (λ (X : List ℕ). AtMost X G) (known-event clk (e .tablet) (at G (e .tablet)) (omega (arith, ce .first, ce .last))) (c .known-in (e .tablet) (ce .tablet)) in
       at-most-trans (clockOf clk e) (clk (e .tablet) (at G (e .tablet))) G
       (grows (e .tablet) (e .number) (at G (e .tablet)) (ce .tablet) (ce .first) (ce .last) (c .most (e .tablet) (ce .tablet))) top

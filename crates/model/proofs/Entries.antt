@@ -1,14 +1,12 @@
 -- Lists of eight entries read by index: the one bridge between the tests that compute and statements about every entry.
-use mathlib.Core.Path.{_≡_, refl, sym, _∙_, subst}
-use mathlib.Core.Bool.{Bool, true, false}
-use mathlib.Core.List.{List, [], _∷_}
+use mathlib.Core.Path.{_≡_, refl, sym, _∙_}
+use mathlib.Core.List.{List}
 use Prim.Native.Nat.{ℕ, zero, suc, _≤_, _<_}
 use native.Mathlib.Omega.{arith}
-use native.Mathlib.Nat.{le-refl, le-trans, not-suc-le-zero, le-of-suc-le-suc}
 use lib.Dec.{T, leb, leb→le, le→leb}
 use lib.ListN.{length}
 use lib.Seq.{ext-getD}
-use Rattle.model.specs.Lists.{at, eight, zeros, allBelow}
+use Rattle.model.specs.Lists.{at, eight, zeros}
 use Rattle.model.specs.Clocks.{covered}
 use Rattle.model.proofs.Tests.{allBelow-at, allBelow-all}
 

@@ -1,14 +1,14 @@
 -- `mayFollow` answers 0 exactly when each of document 01's conditions holds.
-use mathlib.Core.Path.{_≡_, refl, sym, _∙_, subst}
+use mathlib.Core.Path.{_≡_, refl}
 use mathlib.Core.Logic.{_≢_, by-cases}
-use mathlib.Core.Bool.{Bool, true, false, cond, not, _&&_}
+use mathlib.Core.Bool.{Bool, true, false, cond, not}
 use mathlib.Core.List.{List}
-use Prim.Native.Nat.{ℕ, zero, suc, _+_, _-_, _≤_, _<_}
+use Prim.Native.Nat.{ℕ, _+_, _-_, _≤_, _<_}
 use native.Mathlib.Omega.{arith}
 use native.Mathlib.Decide.{ℕ-discrete, decLt}
 use borrow.Author.Tests.{eqb-true, eqb-false, ltb-false, leb-false, eq-eqb, ne-eqb, lt-ltb, le-ltb, lt-leb, not-false}
-use lib.Dec.{T, leb, ltb, eqb, leb→le, le→leb, eqb→eq, eqb-refl}
-use Rattle.model.specs.Lists.{at, allBelow}
+use lib.Dec.{T, leb, ltb, eqb, leb→le, le→leb, eqb→eq}
+use Rattle.model.specs.Lists.{at}
 use Rattle.model.specs.Clocks.{Clocks, covered, known}
 use Rattle.model.specs.Follow.{othersWithin, lastKnown, covers, mayFollow}
 use Rattle.model.proofs.Tests.{holds, from-true, allBelow-at, allBelow-all}

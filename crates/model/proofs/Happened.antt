@@ -1,16 +1,16 @@
 -- Theorems 3 and 4: happened-before and the clocks; consistent cuts and happened-before.
-use mathlib.Core.Path.{_≡_, refl, sym, _∙_, subst}
+use mathlib.Core.Path.{_≡_, refl, sym, subst}
 use mathlib.Core.Logic.{_≢_, _↔_, by-cases}
 use mathlib.Core.List.{List}
-use Prim.Native.Nat.{ℕ, zero, suc, _≤_, _<_}
+use Prim.Native.Nat.{ℕ, _≤_, _<_}
 use native.Mathlib.Omega.{arith}
 use native.Mathlib.Decide.{ℕ-discrete, decLe}
 use Rattle.model.specs.Lists.{at}
-use Rattle.model.specs.Clocks.{Clocks, EventName, clockOf, known}
+use Rattle.model.specs.Clocks.{Clocks, EventName, clockOf}
 use Rattle.model.specs.Cuts.{Contains}
 use Rattle.model.specs.Happened.{HappenedBefore, earlier, told, through}
-use Rattle.model.proofs.Entries.{AtMost, at-most-refl, at-most-trans}
-use Rattle.model.proofs.Ranges.{known-at-most, Closed, Consistent}
+use Rattle.model.proofs.Entries.{AtMost, at-most-trans}
+use Rattle.model.proofs.Ranges.{known-at-most, Consistent}
 use Rattle.model.proofs.Causal.{Causal, event, grows, closed-has}
 
 -- what happened before an event of the trace is of the trace, is known to it in full, and does not know it

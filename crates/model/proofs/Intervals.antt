@@ -1,19 +1,19 @@
 -- Theorem 5: interval p is the consistent cuts that contain the event at p and no event accepted after it.
-use mathlib.Core.Path.{_≡_, refl, sym, _∙_, subst}
-use mathlib.Core.Logic.{_≢_, _↔_, by-cases}
+use mathlib.Core.Path.{_≡_, refl, sym, subst}
+use mathlib.Core.Logic.{_↔_, by-cases}
 use mathlib.Core.List.{List, [], _∷_, List·Memᴰ}
 use Prim.Native.Nat.{ℕ, zero, suc, _+_, _≤_, _<_}
 use native.Mathlib.Omega.{arith}
 use native.Mathlib.Decide.{ℕ-discrete, decLe}
 use lib.ListN.{length, getD}
 use Rattle.model.specs.Lists.{at, eight, zeros}
-use Rattle.model.specs.Clocks.{EventName, clockOf, covered}
+use Rattle.model.specs.Clocks.{EventName, covered}
 use Rattle.model.specs.Follow.{indexAt, tally, tallies, eventAt}
 use Rattle.model.specs.Store.{Store, clocksOf, talliesOf}
 use Rattle.model.specs.Cuts.{Contains, closed, consistent, range, gmin, gbnd, interval}
 use Rattle.model.proofs.Entries.{AtMost, at-most-trans}
-use Rattle.model.proofs.Ranges.{Consistent, InRange, range-from, range-into}
-use Rattle.model.proofs.Causal.{Causal, closed-has}
+use Rattle.model.proofs.Ranges.{Consistent, range-from, range-into}
+use Rattle.model.proofs.Causal.{closed-has}
 use Rattle.model.proofs.Valid.{at-tallies, length-tallies, tally-own, tally-other, tally-mono, tallies-grow}
 use Rattle.model.proofs.Sound.{Sound, causal-at, follows-at, index-fits}
 
@@ -97,4 +97,14 @@ module _ (s : Store) (snd : Sound s) where
           least = closed-has (clocksOf s) (talliesOf s) (causal-at s snd (s .events) (omega arith)) G (c .0) (eventAt (s .order) q) (c .1);
           cut = record { most = within-of-none (suc q) h G (c .0 .most) (c .2); known-in = c .0 .known-in };
         }),
+  )
+
+  -- the same in document 01's own words: the consistent cuts G with Gmin <= G <= Gbnd in each entry
+  pub interval-literal : (p : ℕ) → p ≤ s .events → (G : List ℕ) → length G ≡ 8 → List·Memᴰ G (interval s p) ↔ (Consistent (clocksOf s) (talliesOf s) G × AtMost (gmin s p) G × AtMost G (gbnd s p))
+  unfolding interval
+  interval-literal p h G long = (
+    λ m. let r = range-from (clocksOf s) (gmin s p) (gbnd s p) (length-tallies (s .order) p) G m in
+        (record { most = at-most-trans G (gbnd s p) (talliesOf s) (r .cut .most) (tallies-grow (s .order) p (s .events) h); known-in = r .cut .known-in }, r .least, r .cut .most),
+    λ c. range-into (clocksOf s) (gmin s p) (gbnd s p) (length-tallies (s .order) p) G
+        (record { long = long; least = c .1; cut = record { most = c .2; known-in = c .0 .known-in } }),
   )

@@ -2,16 +2,16 @@
 -- rising lists with the same members are equal.
 use mathlib.Core.Path.{_≡_, refl, sym, ap₂, _∙_, subst}
 use mathlib.Core.Logic.{_⊎_, inl, inr, ⊎-elim, by-cases}
-use mathlib.Core.Bool.{Bool, true, false, cond}
-use mathlib.Core.List.{List, [], _∷_, _++_, map, List·Memᴰ, List·Memᴰ·head, List·Memᴰ·tail, List·Memᴰ·cases-cons, List·Memᴰ·not-nil, List·Memᴰ·append-cases, Memᴰ·append-left, Memᴰ·append-right}
+use mathlib.Core.Bool.{Bool, true, false}
+use mathlib.Core.List.{List, [], _∷_, _++_, List·Memᴰ, List·Memᴰ·head, List·Memᴰ·tail, List·Memᴰ·cases-cons, List·Memᴰ·not-nil, List·Memᴰ·append-cases}
 use Prim.Native.Nat.{ℕ, zero, suc, _≤_, _<_}
 use native.Mathlib.Omega.{arith}
-use native.Mathlib.Nat.{not-suc-le-zero, le-of-suc-le-suc}
+use native.Mathlib.Nat.{not-suc-le-zero}
 use native.Mathlib.Decide.{ℕ-discrete, decLt}
 use borrow.Author.Tests.{lt-ltb, le-ltb, eq-eqb, ne-eqb}
-use lib.Dec.{T, ltb, eqb}
+use lib.Dec.{T, ltb}
 use lib.ListN.{length}
-use Rattle.model.specs.Lists.{at, keep}
+use Rattle.model.specs.Lists.{at, consIf, keep}
 use Rattle.model.specs.Lexical.{lexBefore}
 use Rattle.model.proofs.Lists.{keep-from}
 
@@ -115,7 +115,7 @@ pub keep-rising : (test : List ℕ → Bool) (Gs : List (List ℕ)) → Rising G
 keep-rising test [] r = tt
 keep-rising test (G ∷ Gs) r = go (test G) (keep-rising test Gs (r .1))
   where
-    go : (b : Bool) → Rising (keep test Gs) → Rising (Rattle.model.specs.Lists.consIf b G (keep test Gs))
+    go : (b : Bool) → Rising (keep test Gs) → Rising (consIf b G (keep test Gs))
     go true rest = (λ H m. r .0 H (keep-from test Gs m .0), rest)
     go false rest = rest
 
@@ -125,3 +125,14 @@ append-rising (G ∷ Gs) Hs rG rH f = (
   λ H m. ⊎-elim (rG .0 H) (λ n. f G H (List·Memᴰ·head refl) n) (List·Memᴰ·append-cases Gs m),
   append-rising Gs Hs (rG .1) rH (λ K L m n. f K L (List·Memᴰ·tail m) n),
 )
+
+-- of two lists of one length, one at most the other in each entry is equal to it or stands before it
+pub at-most-lex : (U W : List ℕ) → length U ≡ length W → ((j : ℕ) → j < length U → at U j ≤ at W j) → (U ≡ W) ⊎ T (lexBefore U W)
+at-most-lex [] [] e most = inl refl
+at-most-lex [] (y ∷ W) e most = let z : ⊥ = omega arith in absurd z
+at-most-lex (x ∷ U) [] e most = let z : ⊥ = omega arith in absurd z
+at-most-lex (x ∷ U) (y ∷ W) e most =
+    by-cases (decLt x y) (λ less. inr (ahead x y U W less))
+    (λ n. let same : x ≡ y = omega (arith, most 0 (omega arith)) in
+    ⊎-elim (λ tails. inl (ap₂ {C = List ℕ} _∷_ same tails)) (λ t. inr (level x y U W same t))
+    (at-most-lex U W (omega arith) (λ j h. most (suc j) (omega arith))))

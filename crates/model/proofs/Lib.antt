@@ -9,12 +9,15 @@ pub mod Follow
 pub mod Valid
 pub mod Happened
 pub mod Sound
+pub mod Bounds
 pub mod Intervals
 pub mod Partition
 pub mod Agree
 pub mod Largest
+pub mod Raised
 pub mod Step
 pub mod Slots
 pub mod Total
 pub mod Accepted
 pub mod Cases
+pub mod Theorems

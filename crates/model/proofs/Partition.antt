@@ -1,28 +1,29 @@
 -- Theorem 6: the counts of intervals 0 to T add up to the number of consistent cuts, and each consistent cut is in exactly
 -- one interval.
-use mathlib.Core.Path.{_≡_, refl, sym, ap, _∙_, subst}
+use mathlib.Core.Path.{_≡_, sym, ap, _∙_, subst}
 use mathlib.Core.Logic.{_≢_, _⊎_, inl, inr, ⊎-elim, by-cases}
-use mathlib.Core.Bool.{Bool, true, false, not, _&&_}
-use mathlib.Core.List.{List, [], _∷_, List·Memᴰ}
+use mathlib.Core.Bool.{Bool, not, _&&_}
+use mathlib.Core.List.{List, List·Memᴰ}
 use Prim.Native.Nat.{ℕ, zero, suc, _+_, _≤_, _<_}
 use native.Mathlib.Omega.{arith}
 use native.Mathlib.Decide.{ℕ-discrete, decLe, decLt}
 use lib.Dec.{T, T-not, not-T}
 use lib.ListN.{length, getD}
-use Rattle.model.specs.Lists.{at, sumBelow, keep, zeros}
-use Rattle.model.specs.Clocks.{Clocks, EventName, clockOf, covered}
-use Rattle.model.specs.Follow.{indexAt, tally, tallies, eventAt}
-use Rattle.model.specs.Store.{Store, clocksOf, talliesOf}
-use Rattle.model.specs.Cuts.{Contains, consistent, box, range, gmin, gbnd, interval, allCuts, total}
-use Rattle.model.proofs.Tests.{and-left, and-right, and-both, decided, same-test}
-use Rattle.model.proofs.Entries.{AtMost, covered-at-most, at-most-covered, at-most-trans, zeros-at-most}
-use Rattle.model.proofs.Lists.{keep-from, keep-into, keep-same, keep-parts}
-use Rattle.model.proofs.Lexical.{Rising, keep-rising, rising-equal}
+use Rattle.model.specs.Lists.{at, sumBelow, keep}
+use Rattle.model.specs.Clocks.{Clocks, covered}
+use Rattle.model.specs.Follow.{indexAt, tallies, eventAt}
+use Rattle.model.specs.Store.{Store, clocksOf}
+use Rattle.model.specs.Cuts.{consistent, box, range, gmin, interval, allCuts, total}
+use Rattle.model.proofs.Tests.{and-left, and-right, and-both, decided}
+use Rattle.model.proofs.Entries.{AtMost, covered-at-most, at-most-covered, at-most-trans}
+use Rattle.model.proofs.Lists.{keep-from, keep-into, keep-parts}
+use Rattle.model.proofs.Lexical.{keep-rising, rising-equal}
 use Rattle.model.proofs.Box.{box-rising, box-from, box-into}
 use Rattle.model.proofs.Ranges.{Consistent, consistent-holds, holds-consistent}
 use Rattle.model.proofs.Causal.{closed-has}
 use Rattle.model.proofs.Valid.{at-tallies, length-tallies, tally-other, tallies-grow}
 use Rattle.model.proofs.Sound.{Sound, causal-at, follows-at, index-fits}
+use Rattle.model.proofs.Bounds.{tested-range}
 use Rattle.model.proofs.Intervals.{interval-high, interval-has, later-outside}
 
 -- the consistent cuts of the first p events, found by testing every vector up to their tallies
@@ -132,11 +133,8 @@ module _ (s : Store) (snd : Sound s) (q : ℕ) (h : q < s .events) where
 
 -- before the first event there is interval 0
 cuts-at-zero : (s : Store) → cutsTo s 0 ≡ interval s 0
-unfolding cutsTo interval range
-cuts-at-zero s =
-    keep-same (consistent (clocksOf s) (tallies (s .order) 0)) (λ G. covered zeros G && consistent (clocksOf s) (tallies (s .order) 0) G)
-    (box (tallies (s .order) 0))
-    (λ G m. sym (ap (λ (b : Bool). b && consistent (clocksOf s) (tallies (s .order) 0) G) (Rattle.model.proofs.Tests.holds (covered zeros G) (at-most-covered zeros G (zeros-at-most G)))))
+unfolding cutsTo interval
+cuts-at-zero s = tested-range (clocksOf s) (tallies (s .order) 0)
 
 module _ (s : Store) (snd : Sound s) where
   sum-to : (p : ℕ) → p ≤ s .events → sumBelow (suc p) (λ q. length (interval s q)) ≡ length (cutsTo s p)

@@ -6,14 +6,14 @@ use Prim.Native.Nat.{ℕ, zero, suc, _≤_, _<_}
 use native.Mathlib.Omega.{arith}
 use lib.Dec.{T}
 use lib.ListN.{length}
-use Rattle.model.specs.Lists.{at, zeros, allBelow, keep}
+use Rattle.model.specs.Lists.{at}
 use Rattle.model.specs.Clocks.{Clocks, covered, known}
 use Rattle.model.specs.Cuts.{closed, consistent, box, range}
 use Rattle.model.proofs.Tests.{and-left, and-right, and-both, allBelow-at, allBelow-all}
 use Rattle.model.proofs.Entries.{AtMost, covered-at-most, at-most-covered, zeros-at-most}
 use Rattle.model.proofs.Lists.{keep-from, keep-into}
 use Rattle.model.proofs.Lexical.{Rising, keep-rising}
-use Rattle.model.proofs.Box.{Within, box-rising, box-from, box-into}
+use Rattle.model.proofs.Box.{box-rising, box-from, box-into}
 
 -- what is known at an event is its clock; where there is none, nothing
 pub known-event : (clk : Clocks) (j k : ℕ) → 1 ≤ k → known clk j k ≡ clk j k

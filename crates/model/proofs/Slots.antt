@@ -1,11 +1,11 @@
 -- Slots: two events share none, all lie within the buffers, and writing one leaves the others.
-use mathlib.Core.Path.{_≡_, refl, sym, ap, _∙_, subst}
+use mathlib.Core.Path.{_≡_, refl, sym, ap, _∙_}
 use mathlib.Core.Logic.{_≢_, _⊎_, inl, inr, ⊎-elim, by-cases}
 use mathlib.Core.List.{List, [], _∷_, _++_, append-assoc}
-use Prim.Native.Nat.{ℕ, zero, suc, _+_, _-_, _*_, _≤_, _<_, min}
+use Prim.Native.Nat.{ℕ, suc, _+_, _*_, _≤_, _<_}
 use native.Mathlib.Omega.{arith}
-use native.Mathlib.Decide.{ℕ-discrete, decLt}
-use lib.ListN.{length, getD, take, drop, set, length-take, length-drop}
+use native.Mathlib.Decide.{decLt}
+use lib.ListN.{length, take, drop, set, length-take, length-drop}
 use lib.Seq.{sets, sets-eq, length-sets, getD-set-other, getD-take, getD-drop, ext-getD, take-at, drop-at, length-take-le}
 use Rattle.model.specs.Lists.{at}
 use Rattle.model.specs.Numbers.{slot}

@@ -1,15 +1,14 @@
 -- A sound store: what every call may go by once refusals 1 and 3 are behind it.
-use mathlib.Core.Bool.{Bool, _&&_}
-use Prim.Native.Nat.{ℕ, zero, suc, _≤_, _<_}
+use Prim.Native.Nat.{ℕ, suc, _≤_, _<_}
 use native.Mathlib.Omega.{arith}
-use lib.Dec.{T, leb, leb→le}
+use lib.Dec.{T, leb, leb→le, le→leb}
 use lib.ListN.{getD}
 use Rattle.model.specs.Numbers.{widthFits}
 use Rattle.model.specs.Clocks.{clockOf}
 use Rattle.model.specs.Follow.{indexAt, tallies, eventAt, followTo}
-use Rattle.model.specs.Store.{Store, clocksOf, talliesOf, valid}
+use Rattle.model.specs.Store.{Store, clocksOf, valid}
 use Rattle.model.specs.Cuts.{Contains}
-use Rattle.model.proofs.Tests.{and-left, and-right}
+use Rattle.model.proofs.Tests.{and-left, and-right, and-both}
 use Rattle.model.proofs.Follow.{Follows}
 use Rattle.model.proofs.Causal.{Causal}
 use Rattle.model.proofs.Valid.{contained-at, follow-at, follow-prefix, causal-of-valid}
@@ -30,6 +29,13 @@ sound s w v =
       total = leb→le (s .events) 2032 few;
       follow = and-right (leb (s .events) 2032) (followTo (s .tablets) (clocksOf s) (s .order) (s .events)) v;
     }
+
+pub sound-valid : (s : Store) → Sound s → T (valid s)
+unfolding valid
+sound-valid s snd =
+    and-both (leb (s .events) 2032) (followTo (s .tablets) (clocksOf s) (s .order) (s .events))
+    (le→leb (s .events) 2032 (snd .total))
+    (snd .follow)
 
 module _ (s : Store) (snd : Sound s) where
   -- after each position the clocks are causal

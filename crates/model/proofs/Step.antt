@@ -1,89 +1,27 @@
 -- Theorem 9: the lexical step gives the next cut of a range, or the end.
-use mathlib.Core.Path.{_≡_, refl, sym, ap, _∙_, subst}
-use mathlib.Core.Logic.{_≢_, _⊎_, inl, inr, ⊎-elim, by-cases}
-use mathlib.Core.Bool.{Bool, true, false, cond, _&&_}
+use mathlib.Core.Path.{_≡_, sym, ap, _∙_, subst}
+use mathlib.Core.Logic.{_⊎_, inr, ⊎-elim, by-cases}
+use mathlib.Core.Bool.{Bool, cond}
 use mathlib.Core.List.{List, [], _∷_, List·Memᴰ, List·Memᴰ·head, List·Memᴰ·tail, List·Memᴰ·cases-cons, List·Memᴰ·not-nil, Memᴰ·cast}
 use mathlib.Core.Option.{Option, none, some}
-use Prim.Native.Nat.{ℕ, zero, suc, _+_, _≤_, _<_, max}
+use Prim.Native.Nat.{ℕ, zero, suc, _+_, _≤_, _<_}
 use native.Mathlib.Omega.{arith}
-use native.Mathlib.Decide.{ℕ-discrete, decLe, decLt}
-use native.Mathlib.Nat.{not-suc-le-zero}
-use borrow.Author.Tests.{le-leb, lt-leb, eq-eqb, ne-eqb}
-use lib.Dec.{T, leb, ltb, eqb, leb→le, le→leb, ltb→lt, lt→ltb}
+use native.Mathlib.Decide.{ℕ-discrete, decLe}
+use lib.Dec.{T, leb, ltb, leb→le, le→leb, ltb→lt, lt→ltb}
 use lib.ListN.{length}
-use Rattle.model.specs.Lists.{at, eight, zeros, allBelow, maxBelow, keep}
+use Rattle.model.specs.Lists.{at, keep}
 use Rattle.model.specs.Clocks.{Clocks, EventName, clockOf, known}
 use Rattle.model.specs.Cuts.{Contains, range}
 use Rattle.model.specs.Lexical.{lexBefore}
 use Rattle.model.specs.Step.{canRaise, upTo, least, raised, raiseBelow, step}
-use Rattle.model.proofs.Tests.{and-left, and-right, and-both, allBelow-at, allBelow-all, holds, fails, decided, split-below}
-use Rattle.model.proofs.Entries.{AtMost, at-most-trans, at-eight, length-eight, at-zeros}
+use Rattle.model.proofs.Tests.{and-left, and-right, and-both, allBelow-at, allBelow-all, holds, fails, decided}
+use Rattle.model.proofs.Entries.{AtMost, at-most-trans, at-zeros}
 use Rattle.model.proofs.Lists.{keep-from, keep-into}
-use Rattle.model.proofs.Lexical.{lex-irrefl, lex-trans, ahead, level, DiffersAt, lex-differs, differs-lex, Rising, rising-equal, keep-rising}
-use Rattle.model.proofs.Ranges.{known-event, known-at-most, Consistent, InRange, range-rising, range-from, range-into}
-use Rattle.model.proofs.Causal.{Causal, event, knows-all, closed-has}
-use Rattle.model.proofs.Largest.{max-above, max-least, max-attained}
-
--- of two lists of one length, one at most the other in each entry is equal to it or stands before it
-pub at-most-lex : (U W : List ℕ) → length U ≡ length W → ((j : ℕ) → j < length U → at U j ≤ at W j) → (U ≡ W) ⊎ T (lexBefore U W)
-at-most-lex [] [] e most = inl refl
-at-most-lex [] (y ∷ W) e most = let z : ⊥ = omega arith in absurd z
-at-most-lex (x ∷ U) [] e most = let z : ⊥ = omega arith in absurd z
-at-most-lex (x ∷ U) (y ∷ W) e most =
-    by-cases (decLt x y) (λ less. inr (ahead x y U W less))
-    (λ n. let same : x ≡ y = omega (arith, most 0 (omega arith)) in
-    ⊎-elim (λ tails. inl (mathlib.Core.Path.ap₂ {C = List ℕ} _∷_ same tails)) (λ t. inr (level x y U W same t))
-    (at-most-lex U W (omega arith) (λ j h. most (suc j) (omega arith))))
-
--- the entries of a raised cut
-module _ (clk : Clocks) (low G : List ℕ) (k : ℕ) where
-  up-own : upTo G k k ≡ at G k + 1
-  up-own = simp (eq-eqb k k refl)
-
-  up-other : (j : ℕ) → j ≢ k → upTo G k j ≡ at G j
-  up-other j other = simp (ne-eqb j k other)
-
-  at-raised : (j : ℕ) → j < 8 → at (raised clk low G k) j ≡ cond (leb j k) (upTo G k j) (least clk low G k j)
-  unfolding raised
-  at-raised j h = at-eight (λ j. cond (leb j k) (upTo G k j) (least clk low G k j)) j h
-
-  raised-upto : (j : ℕ) → j < 8 → j ≤ k → at (raised clk low G k) j ≡ upTo G k j
-  raised-upto j h near = at-raised j h ∙ simp (le-leb j k near)
-
-  raised-behind : (j : ℕ) → j < 8 → k < j → at (raised clk low G k) j ≡ least clk low G k j
-  raised-behind j h far = at-raised j h ∙ simp (lt-leb j k far)
-
-  raised-before : (j : ℕ) → j < k → k < 8 → at (raised clk low G k) j ≡ at G j
-  raised-before j near hk = raised-upto j (omega arith) (omega arith) ∙ up-other j (omega arith)
-
-  raised-own : k < 8 → at (raised clk low G k) k ≡ at G k + 1
-  raised-own hk = raised-upto k hk (omega arith) ∙ up-own
-
-  raised-long : length (raised clk low G k) ≡ 8
-  unfolding raised
-  raised-long = length-eight (λ j. cond (leb j k) (upTo G k j) (least clk low G k j))
-
-  -- the least entry behind k: above Gmin's and above all that the events up to k know, and one of these
-  least-low : (j : ℕ) → at low j ≤ least clk low G k j
-  unfolding least
-  least-low j = omega arith
-
-  least-known : (i j : ℕ) → i ≤ k → at (known clk i (upTo G k i)) j ≤ least clk low G k j
-  unfolding least
-  least-known i j h = omega (arith, max-above (suc k) (λ i. at (known clk i (upTo G k i)) j) i (omega arith))
-
-  least-least : (j bound : ℕ) → at low j ≤ bound → ((i : ℕ) → i ≤ k → at (known clk i (upTo G k i)) j ≤ bound) → least clk low G k j ≤ bound
-  unfolding least
-  least-least j bound h f =
-      omega (arith, max-least (suc k) (λ i. at (known clk i (upTo G k i)) j) bound (λ i hi. f i (omega arith)))
-
-  least-is : (j : ℕ) → (least clk low G k j ≡ at low j) ⊎ ((i : ℕ) × (i ≤ k) × (least clk low G k j ≡ at (known clk i (upTo G k i)) j))
-  unfolding least
-  least-is j =
-      by-cases (decLe (maxBelow (suc k) (λ i. at (known clk i (upTo G k i)) j)) (at low j))
-      (λ h. inl (omega arith))
-      (λ h. ⊎-elim (λ e. let z : ⊥ = omega arith in absurd z) (λ r. inr (r .0, omega (arith, r .1), omega (arith, r .2)))
-      (max-attained (suc k) (λ i. at (known clk i (upTo G k i)) j)))
+use Rattle.model.proofs.Lexical.{lex-trans, DiffersAt, lex-differs, differs-lex, at-most-lex, rising-equal, keep-rising}
+use Rattle.model.proofs.Ranges.{known-event, known-at-most, InRange, range-rising, range-from, range-into}
+use Rattle.model.proofs.Causal.{event, knows-all, closed-has}
+use Rattle.model.proofs.Bounds.{Bounds}
+use Rattle.model.proofs.Raised.{up-own, up-other, raised-upto, raised-behind, raised-before, raised-own, raised-long, least-low, least-known, least-least, least-is}
 
 -- that a tablet can be raised, read both ways
 pub record CanRaise (clk : Clocks) (high G : List ℕ) (k : ℕ) : Type 0 where
@@ -105,12 +43,6 @@ raise-can clk high G k c =
     and-both (ltb (at G k) (at high k)) _ (lt→ltb (at G k) (at high k) (c .room))
     (allBelow-all k (λ j. leb (at (clk k (at G k + 1)) j) (at G j))
     (λ j h. le→leb (at (clk k (at G k + 1)) j) (at G j) (c .ready j h)))
-
--- a range between two consistent cuts
-pub record Bounds (clk : Clocks) (low high : List ℕ) : Type 0 where
-  pub long : length high ≡ 8
-  pub causal : Causal clk high
-  pub bottom : Consistent clk high low
 
 module _ (clk : Clocks) (low high : List ℕ) (bounds : Bounds clk low high) (G : List ℕ) (inside : InRange clk low high G) where
   -- a cut that stands behind G differs first at a tablet that can be raised

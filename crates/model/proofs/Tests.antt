@@ -1,7 +1,7 @@
 -- Laws of tests: a conjunction, a condition, and `allBelow` read at an index and built from every index.
 use mathlib.Core.Path.{_≡_, refl, ap₂}
 use mathlib.Core.Logic.{by-cases}
-use mathlib.Core.Bool.{Bool, true, false, cond, not, _&&_}
+use mathlib.Core.Bool.{Bool, true, false, false≢true, _&&_}
 use Prim.Native.Nat.{ℕ, zero, suc, _+_, _<_}
 use native.Mathlib.Nat.{not-suc-le-zero}
 use native.Mathlib.Decide.{ℕ-discrete}
@@ -31,7 +31,7 @@ fails false n = refl
 
 pub from-true : (b : Bool) → b ≡ true → T b
 from-true true e = tt
-from-true false e = let z : ⊥ = absurd (mathlib.Core.Bool.false≢true e) in absurd z
+from-true false e = absurd (false≢true e)
 
 -- a test holds or it does not
 pub decided : (b : Bool) → Dec (T b)

@@ -1,18 +1,17 @@
 -- The tallies add up to the position, no tablet has more than 254 events, and so T is at most 2,032.
-use mathlib.Core.Path.{_≡_, refl, sym, ap, _∙_, subst}
+use mathlib.Core.Path.{_≡_, refl, ap, _∙_, subst}
 use mathlib.Core.Logic.{_≢_, by-cases}
 use mathlib.Core.List.{List}
-use Prim.Native.Nat.{ℕ, zero, suc, _+_, _-_, _*_, _≤_, _<_}
+use Prim.Native.Nat.{ℕ, zero, suc, _*_, _≤_, _<_}
 use native.Mathlib.Omega.{arith}
 use native.Mathlib.Decide.{ℕ-discrete}
 use native.Mathlib.Nat.{not-suc-le-zero}
 use lib.Dec.{T}
 use lib.ListN.{getD}
-use Rattle.model.specs.Lists.{at, sumBelow}
-use Rattle.model.specs.Clocks.{Clocks, clockOf}
-use Rattle.model.specs.Follow.{indexAt, tally, tallies, eventAt, followTo}
+use Rattle.model.specs.Lists.{sumBelow}
+use Rattle.model.specs.Clocks.{Clocks}
+use Rattle.model.specs.Follow.{indexAt, tally, followTo}
 use Rattle.model.proofs.Tests.{sumBelow-same}
-use Rattle.model.proofs.Follow.{Follows}
 use Rattle.model.proofs.Valid.{at-tallies, tally-own, tally-other, follow-before, follow-at}
 
 -- a sum with one term raised by one

@@ -1,20 +1,19 @@
 -- The tallies grow by one at each position, and the clocks of a valid trace are causal (theorem 2).
-use mathlib.Core.Path.{_≡_, refl, sym, _∙_, subst}
+use mathlib.Core.Path.{_≡_, refl, sym, subst}
 use mathlib.Core.Logic.{_≢_, _⊎_, inl, inr, ⊎-elim, by-cases}
-use mathlib.Core.Bool.{Bool, true, false, cond, _&&_}
 use mathlib.Core.List.{List}
-use Prim.Native.Nat.{ℕ, zero, suc, _+_, _-_, _≤_, _<_}
+use Prim.Native.Nat.{ℕ, zero, suc, _+_, _≤_, _<_}
 use native.Mathlib.Omega.{arith}
 use native.Mathlib.Decide.{ℕ-discrete, decLe}
 use borrow.Author.Tests.{eq-eqb, ne-eqb}
-use lib.Dec.{T, eqb, eqb→eq}
+use lib.Dec.{T, eqb→eq}
 use lib.ListN.{length, getD}
 use Rattle.model.specs.Lists.{at}
 use Rattle.model.specs.Clocks.{Clocks, EventName, clockOf, known}
-use Rattle.model.specs.Follow.{indexAt, tally, tallies, eventAt, lastKnown, mayFollow, followTo}
+use Rattle.model.specs.Follow.{indexAt, tally, tallies, eventAt, lastKnown, followTo}
 use Rattle.model.specs.Cuts.{Contains}
 use Rattle.model.proofs.Tests.{and-left, and-right}
-use Rattle.model.proofs.Entries.{AtMost, at-most-refl, at-most-trans, at-eight, length-eight}
+use Rattle.model.proofs.Entries.{AtMost, at-most-trans, at-eight, length-eight}
 use Rattle.model.proofs.Ranges.{known-event}
 use Rattle.model.proofs.Follow.{Follows, may-follow}
 use Rattle.model.proofs.Causal.{Causal, event}

@@ -2,7 +2,7 @@
 -- directly, and is transitive.
 use mathlib.Core.Path.{_≡_}
 use mathlib.Core.Logic.{_≢_}
-use Prim.Native.Nat.{ℕ, _≤_, _<_}
+use Prim.Native.Nat.{_≤_, _<_}
 use Rattle.model.specs.Lists.{at}
 use Rattle.model.specs.Clocks.{Clocks, EventName, clockOf}
 

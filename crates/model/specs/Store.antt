@@ -1,8 +1,8 @@
 -- Document 01, "The store": a record with its three lent buffers, opening, accepting, and when a store is valid.
-use Prim.Native.Nat.{ℕ, _+_, _-_, _*_}
-use mathlib.Core.Bool.{Bool, not, cond, _&&_, _||_}
+use Prim.Native.Nat.{ℕ, _+_, _*_}
+use mathlib.Core.Bool.{Bool, not, cond, _&&_}
 use mathlib.Core.List.{List}
-use lib.Dec.{leb, ltb}
+use lib.Dec.{leb}
 use lib.ListN.{length, getD, set}
 use lib.Seq.{sets}
 use Rattle.model.specs.declared.Record.{Record}
