@@ -1,32 +1,31 @@
 -- Theorem 10: accepting an event that may follow leaves a valid store of T + 1 events, with all earlier events as they were.
 use mathlib.Core.Path.{_≡_, refl, sym, ap, _∙_, subst, subst₃}
 use mathlib.Core.Logic.{_≢_, by-cases}
-use mathlib.Core.Bool.{_&&_}
 use mathlib.Core.List.{List}
 use Prim.Native.Nat.{ℕ, zero, suc, _+_, _-_, _*_, _≤_, _<_}
 use native.Mathlib.Omega.{arith}
 use native.Mathlib.Numerals.{add-one}
 use native.Mathlib.Decide.{ℕ-discrete}
 use borrow.Author.Tests.{eq-eqb, ne-eqb}
-use lib.Dec.{T, leb, leb→le, le→leb}
+use lib.Dec.{T}
 use lib.ListN.{length, getD, length-set}
 use lib.Seq.{getD-set-same, getD-set-other, length-sets}
 use Rattle.model.specs.declared.Event.{Event}
 use Rattle.model.specs.Lists.{at}
-use Rattle.model.specs.Numbers.{slot, index}
+use Rattle.model.specs.Numbers.{slot, column}
 use Rattle.model.specs.Clocks.{Clocks, EventName, clockOf}
-use Rattle.model.specs.Follow.{indexAt, tally, tallies, eventAt, lastKnown, followTo}
-use Rattle.model.specs.Store.{Store, clocksOf, heldOf, talliesOf, fullSize, nextSlot, accepted, eventRefusal}
+use Rattle.model.specs.Follow.{columnAt, tally, tallies, eventAt, lastKnown, followTo}
+use Rattle.model.specs.Store.{Store, clocksOf, heldOf, talliesOf, nextSlot, accepted, eventRefusal}
 use Rattle.model.specs.Cuts.{Contains}
 use Rattle.model.specs.Agree.{AgreeTo}
-use Rattle.model.proofs.Tests.{and-left, and-right, and-both}
+use Rattle.model.proofs.Tests.{and-both}
 use Rattle.model.proofs.Entries.{AtMost}
 use Rattle.model.proofs.Follow.{Follows, may-follow, follows-passes}
 use Rattle.model.proofs.Causal.{event}
 use Rattle.model.proofs.Valid.{at-tallies, tallies-grow, contained-at, follow-before, follow-at}
-use Rattle.model.proofs.Total.{tally-bounded, room-left}
+use Rattle.model.proofs.Total.{room-left}
 use Rattle.model.proofs.Slots.{Storable, slot-below, slots-differ, clock-other, clock-written}
-use Rattle.model.proofs.Sound.{Sound}
+use Rattle.model.proofs.Sound.{Sound, Full, storable}
 use Rattle.model.proofs.Agree.{ClocksAgree, known-same, tally-same, tallies-same, event-same}
 
 -- what an event may rest on is the clocks of the events before it
@@ -34,15 +33,15 @@ follows-moves : (n : ℕ) (clk other : Clocks) (tal : List ℕ) (i : ℕ) (clock
 follows-moves n clk other tal i clock agree f =
     record {
       positive = f .positive;
-      tablet = f .tablet;
+      listed = f .listed;
       room = f .room;
       own = f .own;
       others = f .others;
       above = f .above;
-      covering = λ j hj. subst (λ (X : List ℕ). AtMost X clock) (known-same clk other tal agree j (lastKnown tal (i - 1) clock j) hj (in-use j hj)) (f .covering j hj);
+      covering = λ j hj. subst (λ (X : List ℕ). AtMost X clock) (known-same clk other tal agree j (lastKnown (i - 1) j (at tal j) (at clock j)) hj (in-use j hj)) (f .covering j hj);
     }
   where
-    in-use : (j : ℕ) → j < 8 → lastKnown tal (i - 1) clock j ≤ at tal j
+    in-use : (j : ℕ) → j < 8 → lastKnown (i - 1) j (at tal j) (at clock j) ≤ at tal j
     in-use j hj =
         by-cases (ℕ-discrete j (i - 1)) (λ e. simp (eq-eqb j (i - 1) e) (omega arith))
         (λ other. simp (ne-eqb j (i - 1) other) (f .others j hj other))
@@ -66,34 +65,11 @@ follow-agrees n narrow clk other order bytes (suc p) same agree t =
     earlier : ClocksAgree clk other (tallies order p)
     earlier e c =
         agree e
-        (record { tablet = c .tablet; first = c .first; last = omega (arith, c .last, tallies-grow order p (suc p) (omega arith) (e .tablet) (c .tablet)) })
-
--- the three sizes
-pub record Full (s : Store) : Type 0 where
-  pub clocks : 16256 ≤ length (s .clocks)
-  pub held : 2032 ≤ length (s .held)
-  pub order : 2032 ≤ length (s .order)
-
-pub full-sizes : (s : Store) → T (fullSize s) → Full s
-unfolding fullSize
-full-sizes s t =
-    let two = and-left (leb 16256 (length (s .clocks)) && leb 2032 (length (s .held))) (leb 2032 (length (s .order))) t in
-    record {
-      clocks = leb→le 16256 (length (s .clocks)) (and-left (leb 16256 (length (s .clocks))) (leb 2032 (length (s .held))) two);
-      held = leb→le 2032 (length (s .held)) (and-right (leb 16256 (length (s .clocks))) (leb 2032 (length (s .held))) two);
-      order = leb→le 2032 (length (s .order)) (and-right (leb 16256 (length (s .clocks)) && leb 2032 (length (s .held))) (leb 2032 (length (s .order))) t);
-    }
-
-pub sizes-full : (s : Store) → Full s → T (fullSize s)
-unfolding fullSize
-sizes-full s f =
-    and-both (leb 16256 (length (s .clocks)) && leb 2032 (length (s .held))) (leb 2032 (length (s .order)))
-    (and-both (leb 16256 (length (s .clocks))) (leb 2032 (length (s .held))) (le→leb 16256 (length (s .clocks)) (f .clocks)) (le→leb 2032 (length (s .held)) (f .held)))
-    (le→leb 2032 (length (s .order)) (f .order))
+        (record { column = c .column; first = c .first; last = omega (arith, c .last, tallies-grow order p (suc p) (omega arith) (e .column) (c .column)) })
 
 module _ (s : Store) (snd : Sound s) (full : Full s) (e : Event) (long : length (e .clock) ≡ 8) (may : eventRefusal s e ≡ 0) where
   abbrev own : ℕ
-  own = index (e .tablet)
+  own = column (e .tablet)
 
   -- the name that the event gets
   abbrev pub newName : EventName
@@ -104,7 +80,7 @@ module _ (s : Store) (snd : Sound s) (full : Full s) (e : Event) (long : length 
   follows = may-follow (s .tablets) (clocksOf s) (talliesOf s) (e .tablet .0) (e .clock) may
 
   own-fits : own < 8
-  own-fits = omega (arith, follows .positive, follows .tablet, snd .narrow)
+  own-fits = omega (arith, follows .positive, follows .listed, snd .narrow)
 
   room : tally (s .order) (s .events) own < 254
   room = omega (arith, follows .room, at-tallies (s .order) (s .events) own own-fits)
@@ -114,20 +90,12 @@ module _ (s : Store) (snd : Sound s) (full : Full s) (e : Event) (long : length 
   room-for-one = room-left (s .tablets) (snd .narrow) (clocksOf s) (s .order) (s .events) (snd .follow) own own-fits room
 
   new-storable : Storable newName
-  new-storable = record { tablet = own-fits; first = omega arith; last = omega (arith, room) }
+  new-storable = record { column = own-fits; first = omega arith; last = omega (arith, room) }
 
   -- an event of the store is not the new one
-  old-storable : (f : EventName) → Contains (talliesOf s) f → Storable f
-  old-storable f c =
-      record {
-        tablet = c .tablet;
-        first = c .first;
-        last = omega (arith, c .last, at-tallies (s .order) (s .events) (f .tablet) (c .tablet), tally-bounded (s .tablets) (snd .narrow) (clocksOf s) (s .order) (s .events) (snd .follow) (f .tablet));
-      }
-
   old-differs : (f : EventName) → Contains (talliesOf s) f → f ≢ newName
   old-differs f c same =
-      let t : f .tablet ≡ own = ap (λ (x : EventName). x .tablet) same in
+      let t : f .column ≡ own = ap (λ (x : EventName). x .column) same in
       let k : f .number ≡ tally (s .order) (s .events) own + 1 = ap (λ (x : EventName). x .number) same in
       omega (arith, c .last, ap (at (talliesOf s)) t, at-tallies (s .order) (s .events) own own-fits)
 
@@ -136,10 +104,10 @@ module _ (s : Store) (snd : Sound s) (full : Full s) (e : Event) (long : length 
   unfolding accepted
   accepted-agrees =
       record {
-        width = refl;
+        tablets = refl;
         order = λ q h. sym (getD-set-other (s .order) (s .events) q (e .tablet .0) 0 (omega arith));
-        clocks = λ f c. sym (clock-other (s .clocks) f newName (e .clock) long (old-storable f c) new-storable (old-differs f c));
-        held = λ f c. sym (getD-set-other (s .held) (nextSlot s e) (slot (f .tablet) (f .number)) (e .held) 0 (slots-differ f newName (old-storable f c) new-storable (old-differs f c)));
+        clocks = λ f c. sym (clock-other (s .clocks) f newName (e .clock) long (storable s snd f c) new-storable (old-differs f c));
+        held = λ f c. sym (getD-set-other (s .held) (nextSlot s e) (slot (f .column) (f .number)) (e .held) 0 (slots-differ f newName (storable s snd f c) new-storable (old-differs f c)));
       }
 
   -- and the event at T + 1 is the one offered, with its clock and its held value
@@ -149,9 +117,9 @@ module _ (s : Store) (snd : Sound s) (full : Full s) (e : Event) (long : length 
 
   pub event-written : eventAt (accepted s e .order) (s .events) ≡ newName
   event-written =
-      let t : indexAt (accepted s e .order) (s .events) ≡ own = ap (λ (b : ℕ). b - 1) byte-written in
-      let k : tally (accepted s e .order) (s .events) (indexAt (accepted s e .order) (s .events)) + 1 ≡ tally (s .order) (s .events) own + 1 = ap (λ (m : ℕ). m + 1) (ap (tally (accepted s e .order) (s .events)) t ∙ sym (tally-same (s .order) (accepted s e .order) (s .events) (accepted-agrees .order) own)) in
-      λ i. record { tablet = t i; number = k i }
+      let t : columnAt (accepted s e .order) (s .events) ≡ own = ap (λ (b : ℕ). b - 1) byte-written in
+      let k : tally (accepted s e .order) (s .events) (columnAt (accepted s e .order) (s .events)) + 1 ≡ tally (s .order) (s .events) own + 1 = ap (λ (m : ℕ). m + 1) (ap (tally (accepted s e .order) (s .events)) t ∙ sym (tally-same (s .order) (accepted s e .order) (s .events) (accepted-agrees .order) own)) in
+      λ i. record { column = t i; number = k i }
 
   pub clock-stored : clockOf (clocksOf (accepted s e)) newName ≡ e .clock
   unfolding accepted
@@ -189,4 +157,23 @@ module _ (s : Store) (snd : Sound s) (full : Full s) (e : Event) (long : length 
         clocks = omega (arith, full .clocks, length-sets (s .clocks) (8 * nextSlot s e) (e .clock));
         held = omega (arith, full .held, length-set (s .held) (nextSlot s e) (e .held));
         order = omega (arith, full .order, length-set (s .order) (s .events) (e .tablet .0));
+      }
+
+  pub accepted-one-more : accepted s e .events ≡ s .events + 1
+  unfolding accepted
+  accepted-one-more = refl
+
+  -- what the store had it still has
+  pub still-contained : (f : EventName) → Contains (talliesOf s) f → Contains (talliesOf (accepted s e)) f
+  unfolding accepted
+  still-contained f c =
+      record {
+        column = c .column;
+        first = c .first;
+        last = omega (
+          arith,
+          c .last,
+          ap (λ (tal : List ℕ). at tal (f .column)) (tallies-same (s .order) (accepted s e .order) (s .events) (accepted-agrees .order)),
+          tallies-grow (accepted s e .order) (s .events) (s .events + 1) (omega arith) (f .column) (c .column),
+        );
       }

@@ -14,9 +14,9 @@ use Rattle.model.specs.declared.Position.{Position}
 use Rattle.model.specs.declared.Range.the-variants.{Interval}
 use Rattle.model.specs.Lists.{at, keep}
 use Rattle.model.specs.Clocks.{Clocks, EventName, clockOf, covered, known}
-use Rattle.model.specs.Follow.{indexAt, tally, tallies, eventAt}
+use Rattle.model.specs.Follow.{columnAt, tally, tallies, eventAt}
 use Rattle.model.specs.Store.{Store, clocksOf, talliesOf}
-use Rattle.model.specs.Cuts.{Contains, consistent, box, range, gmin, gbnd, interval, allCuts, total}
+use Rattle.model.specs.Cuts.{Contains, consistent, box, cutsBetween, gmin, gbnd, interval, allCuts, total}
 use Rattle.model.specs.Agree.{AgreeTo, SameEvents}
 use Rattle.model.specs.Questions.{holding, sumHeld, names, meets, firstOf, answer}
 use Rattle.model.proofs.Tests.{same-test, allBelow-same, sumBelow-same}
@@ -35,7 +35,7 @@ ClocksAgree clk other bound = (e : EventName) → Contains bound e → clockOf c
 
 pub known-same : (clk other : Clocks) (bound : List ℕ) → ClocksAgree clk other bound → (j k : ℕ) → j < 8 → k ≤ at bound j → known clk j k ≡ known other j k
 known-same clk other bound agree j zero hj h = refl
-known-same clk other bound agree j (suc k) hj h = agree (event j (suc k)) (record { tablet = hj; first = omega arith; last = h })
+known-same clk other bound agree j (suc k) hj h = agree (event j (suc k)) (record { column = hj; first = omega arith; last = h })
 
 -- they find the same cuts consistent
 consistent-moves : (clk other : Clocks) (bound G : List ℕ) → ClocksAgree clk other bound → Consistent clk bound G → Consistent other bound G
@@ -54,8 +54,8 @@ consistent-same clk other bound G agree =
     (λ t. holds-consistent other bound G (consistent-moves clk other bound G agree (consistent-holds clk bound G t)))
     (λ t. holds-consistent clk bound G (consistent-moves other clk bound G (agree-sym clk other bound agree) (consistent-holds other bound G t)))
 
-pub range-same : (clk other : Clocks) (low high : List ℕ) → ClocksAgree clk other high → range clk low high ≡ range other low high
-unfolding range
+pub range-same : (clk other : Clocks) (low high : List ℕ) → ClocksAgree clk other high → cutsBetween clk low high ≡ cutsBetween other low high
+unfolding cutsBetween
 range-same clk other low high agree =
     keep-same (λ G. covered low G && consistent clk high G) (λ G. covered low G && consistent other high G) (box high)
     (λ G m. ap (λ (b : Bool). covered low G && b) (consistent-same clk other high G agree))
@@ -86,9 +86,9 @@ tallies-same order other p f =
 
 pub event-same : (order other : List ℕ) (q : ℕ) → ((p : ℕ) → p < suc q → getD order p 0 ≡ getD other p 0) → eventAt order q ≡ eventAt other q
 event-same order other q f =
-    let own : indexAt order q ≡ indexAt other q = ap (λ (b : ℕ). b - 1) (f q (omega arith)) in
-    let count : tally order q (indexAt order q) + 1 ≡ tally other q (indexAt other q) + 1 = ap (λ (k : ℕ). k + 1) (tally-same order other q (λ p h. f p (omega arith)) (indexAt order q) ∙ ap (tally other q) own) in
-    λ i. record { tablet = own i; number = count i }
+    let own : columnAt order q ≡ columnAt other q = ap (λ (b : ℕ). b - 1) (f q (omega arith)) in
+    let count : tally order q (columnAt order q) + 1 ≡ tally other q (columnAt other q) + 1 = ap (λ (k : ℕ). k + 1) (tally-same order other q (λ p h. f p (omega arith)) (columnAt order q) ∙ ap (tally other q) own) in
+    λ i. record { column = own i; number = count i }
 
 module _ (s r : Store) (snd : Sound s) where
   gmin-same : (p : ℕ) → p ≤ s .events → AgreeTo p s r → gmin s p ≡ gmin r p
@@ -102,14 +102,14 @@ module _ (s r : Store) (snd : Sound s) where
   unfolding interval
   interval-same p h agree =
       range-same (clocksOf s) (clocksOf r) (gmin s p) (gbnd s p) (agree .clocks)
-      ∙ ap₂ (range (clocksOf r)) (gmin-same p h agree) (tallies-same (s .order) (r .order) p (agree .order))
+      ∙ ap₂ (cutsBetween (clocksOf r)) (gmin-same p h agree) (tallies-same (s .order) (r .order) p (agree .order))
 
   module _ (p : ℕ) (agree : AgreeTo p s r) (G : List ℕ) (most : AtMost G (tallies (s .order) p)) where
     holding-same : (j : ℕ) → j < 8 → holding s G j ≡ holding r G j
     unfolding holding
     holding-same j hj =
         by-cases (decLe 1 (at G j))
-        (λ some. ap (λ (k : ℕ). cond (eqb (at G j) 0) 0 k) (agree .held (event j (at G j)) (record { tablet = hj; first = some; last = most j hj })))
+        (λ some. ap (λ (k : ℕ). cond (eqb (at G j) 0) 0 k) (agree .held (event j (at G j)) (record { column = hj; first = some; last = most j hj })))
         (λ none. let e : at G j ≡ 0 = omega arith in simp e)
 
     sum-same : sumHeld s G ≡ sumHeld r G

@@ -1,5 +1,5 @@
 -- The ranges that a store has, each between two consistent cuts: interval p, and the whole trace.
-use mathlib.Core.Path.{_≡_, sym, ap}
+use mathlib.Core.Path.{_≡_, refl, sym, ap}
 use mathlib.Core.Bool.{Bool, _&&_}
 use mathlib.Core.List.{List}
 use Prim.Native.Nat.{ℕ, zero, suc, _≤_}
@@ -9,14 +9,14 @@ use Rattle.model.specs.Lists.{at, zeros, keep}
 use Rattle.model.specs.Clocks.{Clocks, covered}
 use Rattle.model.specs.Follow.{eventAt}
 use Rattle.model.specs.Store.{Store, clocksOf, talliesOf}
-use Rattle.model.specs.Cuts.{consistent, box, range, gmin, gbnd, allCuts}
-use Rattle.model.proofs.Tests.{holds}
-use Rattle.model.proofs.Entries.{at-zeros, zeros-at-most, at-most-covered}
+use Rattle.model.specs.Cuts.{consistent, box, cutsBetween, gmin, gbnd, allCuts}
+use Rattle.model.proofs.Entries.{at-zeros, zeros-at-most, zeros-covered}
 use Rattle.model.proofs.Lists.{keep-same}
 use Rattle.model.proofs.Ranges.{known-at-most, Consistent}
 use Rattle.model.proofs.Causal.{Causal, clock-consistent}
 use Rattle.model.proofs.Valid.{length-tallies}
-use Rattle.model.proofs.Sound.{Sound, causal-at, event-contained}
+use Rattle.model.proofs.Slots.{clock-long}
+use Rattle.model.proofs.Sound.{Sound, Full, causal-at, event-contained, stored-at}
 
 -- a range between two consistent cuts
 pub record Bounds (clk : Clocks) (low high : List ℕ) : Type 0 where
@@ -33,13 +33,13 @@ zeros-consistent clk high =
     }
 
 -- testing every vector up to a bound is the range from the empty cut to it
-pub tested-range : (clk : Clocks) (high : List ℕ) → keep (consistent clk high) (box high) ≡ range clk zeros high
-unfolding range
+pub tested-range : (clk : Clocks) (high : List ℕ) → keep (consistent clk high) (box high) ≡ cutsBetween clk zeros high
+unfolding cutsBetween
 tested-range clk high =
     keep-same (consistent clk high) (λ G. covered zeros G && consistent clk high G) (box high)
-    (λ G m. sym (ap (λ (b : Bool). b && consistent clk high G) (holds (covered zeros G) (at-most-covered zeros G (zeros-at-most G)))))
+    (λ G m. sym (ap (λ (b : Bool). b && consistent clk high G) (zeros-covered G)))
 
-pub whole-range : (s : Store) → allCuts s ≡ range (clocksOf s) zeros (talliesOf s)
+pub whole-range : (s : Store) → allCuts s ≡ cutsBetween (clocksOf s) zeros (talliesOf s)
 unfolding allCuts
 whole-range s = tested-range (clocksOf s) (talliesOf s)
 
@@ -60,3 +60,10 @@ module _ (s : Store) (snd : Sound s) where
         causal = causal-at s snd (s .events) (omega arith);
         bottom = zeros-consistent (clocksOf s) (talliesOf s);
       }
+
+  -- with buffers of full size, Gmin has eight entries
+  pub gmin-long : Full s → (p : ℕ) → p ≤ s .events → length (gmin s p) ≡ 8
+  unfolding zeros
+  gmin-long full zero h = refl
+  gmin-long full (suc q) h =
+      clock-long (s .clocks) (eventAt (s .order) q) (full .clocks) (stored-at s snd q h)

@@ -9,14 +9,9 @@ use native.Mathlib.Decide.{ℕ-discrete}
 use lib.Dec.{T}
 use lib.ListN.{length}
 use Rattle.model.specs.Lists.{at}
-use Rattle.model.specs.Cuts.{rows, box}
-use Rattle.model.specs.Lexical.{lexBefore}
-use Rattle.model.proofs.Lexical.{ahead, level, Rising, append-rising}
-
--- a vector within a bound: as long, and at most it in each entry
-pub record Within (bound G : List ℕ) : Type 0 where
-  pub long : length G ≡ length bound
-  pub most : (j : ℕ) → j < length bound → at G j ≤ at bound j
+use Rattle.model.specs.Cuts.{rows, box, Within}
+use Rattle.model.specs.Lexical.{lexBefore, Rising}
+use Rattle.model.proofs.Lexical.{ahead, level, append-rising}
 
 -- one entry put before each of a list of vectors
 from-column : (v : ℕ) (rest : List (List ℕ)) (K : List ℕ) → List·Memᴰ K (map (λ G. v ∷ G) rest) → (G : List ℕ) × (K ≡ v ∷ G) × List·Memᴰ G rest

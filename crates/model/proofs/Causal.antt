@@ -13,18 +13,18 @@ use Rattle.model.proofs.Ranges.{known-event, known-at-most, Consistent}
 
 pub record Causal (clk : Clocks) (tal : List ℕ) : Type 0 where
   -- an event's own entry is its number
-  pub own : (e : EventName) → Contains tal e → at (clockOf clk e) (e .tablet) ≡ e .number
+  pub own : (e : EventName) → Contains tal e → at (clockOf clk e) (e .column) ≡ e .number
   -- it knows what the event before it on its tablet knew
   pub next : (j k : ℕ) → j < 8 → 1 ≤ k → k < at tal j → AtMost (clk j k) (clk j (suc k))
   -- it knows what the events that its clock names knew
-  pub told : (e : EventName) → Contains tal e → (i : ℕ) → i < 8 → i ≢ e .tablet → 1 ≤ at (clockOf clk e) i → AtMost (clk i (at (clockOf clk e) i)) (clockOf clk e)
+  pub told : (e : EventName) → Contains tal e → (i : ℕ) → i < 8 → i ≢ e .column → 1 ≤ at (clockOf clk e) i → AtMost (clk i (at (clockOf clk e) i)) (clockOf clk e)
   -- it knows only events of the trace
   pub within : (e : EventName) → Contains tal e → AtMost (clockOf clk e) tal
   -- the events that its clock names do not know it
-  pub fresh : (e : EventName) → Contains tal e → (i : ℕ) → i < 8 → i ≢ e .tablet → 1 ≤ at (clockOf clk e) i → at (clk i (at (clockOf clk e) i)) (e .tablet) < e .number
+  pub fresh : (e : EventName) → Contains tal e → (i : ℕ) → i < 8 → i ≢ e .column → 1 ≤ at (clockOf clk e) i → at (clk i (at (clockOf clk e) i)) (e .column) < e .number
 
 abbrev pub event : ℕ → ℕ → EventName
-event j k = record { tablet = j; number = k }
+event j k = record { column = j; number = k }
 
 module _ (clk : Clocks) (tal : List ℕ) (causal : Causal clk tal) where
   -- on one tablet knowledge only grows
@@ -37,16 +37,16 @@ module _ (clk : Clocks) (tal : List ℕ) (causal : Causal clk tal) where
       (causal .next j l hj (omega arith) (omega arith)))
 
   -- Theorem 2: an event's clock covers the clocks of all that it knows
-  pub knows-all : (e f : EventName) → Contains tal f → e .tablet < 8 → 1 ≤ e .number → e .number ≤ at (clockOf clk f) (e .tablet) → AtMost (clockOf clk e) (clockOf clk f)
+  pub knows-all : (e f : EventName) → Contains tal f → e .column < 8 → 1 ≤ e .number → e .number ≤ at (clockOf clk f) (e .column) → AtMost (clockOf clk e) (clockOf clk f)
   knows-all e f cf ht h1 hk =
-      by-cases (ℕ-discrete (e .tablet) (f .tablet))
+      by-cases (ℕ-discrete (e .column) (f .column))
       (λ same. let last : e .number ≤ f .number = omega (arith, causal .own f cf, rw same at hk) in
       subst (λ (j : ℕ). AtMost (clk j (e .number)) (clockOf clk f)) (sym same)
-      (grows (f .tablet) (e .number) (f .number) (cf .tablet) h1 last (cf .last)))
-      (λ other. let named : 1 ≤ at (clockOf clk f) (e .tablet) = omega arith in
-      at-most-trans (clockOf clk e) (clk (e .tablet) (at (clockOf clk f) (e .tablet))) (clockOf clk f)
-      (grows (e .tablet) (e .number) (at (clockOf clk f) (e .tablet)) ht h1 hk (causal .within f cf (e .tablet) ht))
-      (causal .told f cf (e .tablet) ht other named))
+      (grows (f .column) (e .number) (f .number) (cf .column) h1 last (cf .last)))
+      (λ other. let named : 1 ≤ at (clockOf clk f) (e .column) = omega arith in
+      at-most-trans (clockOf clk e) (clk (e .column) (at (clockOf clk f) (e .column))) (clockOf clk f)
+      (grows (e .column) (e .number) (at (clockOf clk f) (e .column)) ht h1 hk (causal .within f cf (e .column) ht))
+      (causal .told f cf (e .column) ht other named))
 
   -- an event's clock, taken as a cut, is consistent
   pub clock-consistent : (e : EventName) → Contains tal e → Consistent clk tal (clockOf clk e)
@@ -63,12 +63,12 @@ module _ (clk : Clocks) (tal : List ℕ) (causal : Causal clk tal) where
       record {
         most = at-most-refl tal;
         known-in = λ j hj. known-at-most clk j (at tal j) tal
-            (λ h. causal .within (event j (at tal j)) (record { tablet = hj; first = h; last = omega arith }));
+            (λ h. causal .within (event j (at tal j)) (record { column = hj; first = h; last = omega arith }));
       }
 
   -- a closed cut contains what its events know
   pub closed-has : (G : List ℕ) → Consistent clk tal G → (e : EventName) → Contains G e → AtMost (clockOf clk e) G
   closed-has G c e ce =
-      let top : AtMost (clk (e .tablet) (at G (e .tablet))) G = subst (λ (X : List ℕ). AtMost X G) (known-event clk (e .tablet) (at G (e .tablet)) (omega (arith, ce .first, ce .last))) (c .known-in (e .tablet) (ce .tablet)) in
-      at-most-trans (clockOf clk e) (clk (e .tablet) (at G (e .tablet))) G
-      (grows (e .tablet) (e .number) (at G (e .tablet)) (ce .tablet) (ce .first) (ce .last) (c .most (e .tablet) (ce .tablet))) top
+      let top : AtMost (clk (e .column) (at G (e .column))) G = subst (λ (X : List ℕ). AtMost X G) (known-event clk (e .column) (at G (e .column)) (omega (arith, ce .first, ce .last))) (c .known-in (e .column) (ce .column)) in
+      at-most-trans (clockOf clk e) (clk (e .column) (at G (e .column))) G
+      (grows (e .column) (e .number) (at G (e .column)) (ce .column) (ce .first) (ce .last) (c .most (e .column) (ce .column))) top

@@ -1,5 +1,6 @@
 -- Lists of eight entries read by index: the one bridge between the tests that compute and statements about every entry.
 use mathlib.Core.Path.{_≡_, refl, sym, _∙_}
+use mathlib.Core.Bool.{true}
 use mathlib.Core.List.{List}
 use Prim.Native.Nat.{ℕ, zero, suc, _≤_, _<_}
 use native.Mathlib.Omega.{arith}
@@ -8,7 +9,7 @@ use lib.ListN.{length}
 use lib.Seq.{ext-getD}
 use Rattle.model.specs.Lists.{at, eight, zeros}
 use Rattle.model.specs.Clocks.{covered}
-use Rattle.model.proofs.Tests.{allBelow-at, allBelow-all}
+use Rattle.model.proofs.Tests.{allBelow-at, allBelow-all, holds}
 
 -- U is at most W in each entry
 abbrev pub AtMost : List ℕ → List ℕ → Type 0
@@ -54,6 +55,9 @@ at-zeros j h = rw zeros-eight (at-eight (λ j. 0) j h)
 
 pub zeros-at-most : (U : List ℕ) → AtMost zeros U
 zeros-at-most U j h = omega (arith, at-zeros j h)
+
+pub zeros-covered : (W : List ℕ) → covered zeros W ≡ true
+zeros-covered W = holds (covered zeros W) (at-most-covered zeros W (zeros-at-most W))
 
 -- two lists of eight entries are equal where each entry is
 pub same-entries : (U W : List ℕ) → length U ≡ 8 → length W ≡ 8 → ((j : ℕ) → j < 8 → at U j ≡ at W j) → U ≡ W

@@ -8,9 +8,9 @@ use native.Mathlib.Decide.{ℕ-discrete, decLe}
 use lib.ListN.{length, getD}
 use Rattle.model.specs.Lists.{at, eight, zeros}
 use Rattle.model.specs.Clocks.{EventName, covered}
-use Rattle.model.specs.Follow.{indexAt, tally, tallies, eventAt}
+use Rattle.model.specs.Follow.{columnAt, tally, tallies, eventAt}
 use Rattle.model.specs.Store.{Store, clocksOf, talliesOf}
-use Rattle.model.specs.Cuts.{Contains, closed, consistent, range, gmin, gbnd, interval}
+use Rattle.model.specs.Cuts.{Contains, closed, consistent, cutsBetween, gmin, gbnd, interval}
 use Rattle.model.proofs.Entries.{AtMost, at-most-trans}
 use Rattle.model.proofs.Ranges.{Consistent, range-from, range-into}
 use Rattle.model.proofs.Causal.{closed-has}
@@ -19,7 +19,7 @@ use Rattle.model.proofs.Sound.{Sound, causal-at, follows-at, index-fits
 
 -- "interval 0 holds the empty cut and nothing else"
 pub interval-zero : (s : Store) → interval s 0 ≡ zeros ∷ []
-unfolding interval range consistent closed covered tallies eight zeros
+unfolding interval cutsBetween consistent closed covered tallies eight zeros
 interval-zero s = refl
 
 -- where a tablet's event of a given number was accepted
@@ -27,7 +27,7 @@ pub record AcceptedAt (order : List ℕ) (p r j k : ℕ) : Type 0 where
   pub position : ℕ
   pub from : p ≤ position
   pub to : position < r
-  pub event : eventAt order position ≡ record { tablet = j; number = k }
+  pub event : eventAt order position ≡ record { column = j; number = k }
 
 pub accepted-at : (order : List ℕ) (p r j k : ℕ) → p ≤ r → tally order p j < k → k ≤ tally order r j → AcceptedAt order p r j k
 accepted-at order p zero j k h low high = let e : p ≡ 0 = omega arith in let z : ⊥ = omega (arith, rw e at low) in absurd z
@@ -41,9 +41,9 @@ accepted-at order p (suc r) j k h low high =
   where
     here : p ≤ r → tally order r j < k → getD order r 0 ≡ suc j → AcceptedAt order p (suc r) j k
     here hp new same =
-        let own : indexAt order r ≡ j = omega arith in
-        let count : tally order r (indexAt order r) + 1 ≡ k = rw own (omega (arith, tally-own order r j same)) in
-        record { position = r; from = hp; to = omega arith; event = λ i. record { tablet = own i; number = count i } }
+        let own : columnAt order r ≡ j = omega arith in
+        let count : tally order r (columnAt order r) + 1 ≡ k = rw own (omega (arith, tally-own order r j same)) in
+        record { position = r; from = hp; to = omega arith; event = λ i. record { column = own i; number = count i } }
 
 module _ (s : Store) (snd : Sound s) where
   -- a cut of an interval contains no event accepted after it
@@ -58,13 +58,13 @@ module _ (s : Store) (snd : Sound s) where
       let e : EventName = eventAt (s .order) q in
       let own = index-fits s snd q h in
       let low = range-from (clocksOf s) (gmin s (suc q)) (gbnd s (suc q)) (length-tallies (s .order) (suc q)) G m .least in
-      record { tablet = own; first = omega arith; last = omega (arith, low (e .tablet) own, follows-at s snd q h .own, at-tallies (s .order) q (e .tablet) own) }
+      record { column = own; first = omega arith; last = omega (arith, low (e .column) own, follows-at s snd q h .own, at-tallies (s .order) q (e .column) own) }
 
   -- an event accepted after position p is not within the tallies after p
   pub later-outside : (p : ℕ) (G : List ℕ) → AtMost G (tallies (s .order) p) → (q : ℕ) → p ≤ q → q < s .events → Contains G (eventAt (s .order) q) → ⊥
   later-outside p G most q h hq c =
-      let j : ℕ = indexAt (s .order) q in
-      omega (arith, c .last, most j (c .tablet), at-tallies (s .order) p j (c .tablet), tally-mono (s .order) j p q h)
+      let j : ℕ = columnAt (s .order) q in
+      omega (arith, c .last, most j (c .column), at-tallies (s .order) p j (c .column), tally-mono (s .order) j p q h)
 
   -- a cut of the trace that has no event accepted after position p is within the tallies after p
   pub within-of-none : (p : ℕ) → p ≤ s .events → (G : List ℕ) → AtMost G (talliesOf s) → ((q : ℕ) → p ≤ q → q < s .events → Contains G (eventAt (s .order) q) → ⊥) → AtMost G (tallies (s .order) p)
@@ -76,7 +76,7 @@ module _ (s : Store) (snd : Sound s) where
       found low high =
           let a = accepted-at (s .order) p (s .events) j (at G j) hp low high in
           none (a .position) (a .from) (a .to)
-          (subst (Contains G) (sym (a .event)) (record { tablet = hj; first = omega arith; last = omega arith }))
+          (subst (Contains G) (sym (a .event)) (record { column = hj; first = omega arith; last = omega arith }))
 
   -- Theorem 5, for p = q + 1
   pub interval-means : (q : ℕ) → q < s .events → (G : List ℕ) → length G ≡ 8 → List·Memᴰ G (interval s (suc q)) ↔ (Consistent (clocksOf s) (talliesOf s) G × Contains G (eventAt (s .order) q) × ((r : ℕ) → suc q ≤ r → r < s .events → Contains G (eventAt (s .order) r) → ⊥))

@@ -12,7 +12,7 @@ use borrow.Author.Tests.{lt-ltb, le-ltb, eq-eqb, ne-eqb}
 use lib.Dec.{T, ltb}
 use lib.ListN.{length}
 use Rattle.model.specs.Lists.{at, consIf, keep}
-use Rattle.model.specs.Lexical.{lexBefore}
+use Rattle.model.specs.Lexical.{lexBefore, Rising}
 use Rattle.model.proofs.Lists.{keep-from}
 
 -- the two ways in which one list stands before another, and back
@@ -81,11 +81,6 @@ differs-lex (x ∷ G) (y ∷ H) e zero h D = ahead x y G H (D .less)
 differs-lex (x ∷ G) (y ∷ H) e (suc d) h D =
     level x y G H (D .same 0 (omega arith))
     (differs-lex G H (omega arith) d (omega arith) (record { same = λ j b. D .same (suc j) (omega arith); less = D .less }))
-
--- strictly rising: each stands before all that follow
-abbrev pub Rising : List (List ℕ) → Type 0
-Rising [] = Unit {0}
-Rising (G ∷ Gs) = ((H : List ℕ) → List·Memᴰ H Gs → T (lexBefore G H)) × Rising Gs
 
 -- strictly rising lists with the same members are equal
 module _ (G H : List ℕ) (Gs Hs : List (List ℕ)) (rG : Rising (G ∷ Gs)) (rH : Rising (H ∷ Hs)) where

@@ -8,6 +8,8 @@ pub mod Causal
 pub mod Follow
 pub mod Valid
 pub mod Happened
+pub mod Slots
+pub mod Total
 pub mod Sound
 pub mod Bounds
 pub mod Intervals
@@ -16,8 +18,7 @@ pub mod Agree
 pub mod Largest
 pub mod Raised
 pub mod Step
-pub mod Slots
-pub mod Total
+pub mod Questions
 pub mod Accepted
 pub mod Cases
 pub mod Theorems

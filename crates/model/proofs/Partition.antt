@@ -11,9 +11,9 @@ use lib.Dec.{T, T-not, not-T}
 use lib.ListN.{length, getD}
 use Rattle.model.specs.Lists.{at, sumBelow, keep}
 use Rattle.model.specs.Clocks.{Clocks, covered}
-use Rattle.model.specs.Follow.{indexAt, tallies, eventAt}
+use Rattle.model.specs.Follow.{columnAt, tallies, eventAt}
 use Rattle.model.specs.Store.{Store, clocksOf}
-use Rattle.model.specs.Cuts.{consistent, box, range, gmin, interval, allCuts, total}
+use Rattle.model.specs.Cuts.{consistent, box, cutsBetween, gmin, interval, allCuts, total}
 use Rattle.model.proofs.Tests.{and-left, and-right, and-both, decided}
 use Rattle.model.proofs.Entries.{AtMost, covered-at-most, at-most-covered, at-most-trans}
 use Rattle.model.proofs.Lists.{keep-from, keep-into, keep-parts}
@@ -58,7 +58,7 @@ module _ (s : Store) (snd : Sound s) (q : ℕ) (h : q < s .events) where
   low = gmin s (suc q)
 
   abbrev own : ℕ
-  own = indexAt (s .order) q
+  own = columnAt (s .order) q
 
   others-stay : (j : ℕ) → j < 8 → j ≢ own → at now j ≡ at was j
   others-stay j hj other =
@@ -84,7 +84,7 @@ module _ (s : Store) (snd : Sound s) (q : ℕ) (h : q < s .events) where
       has over =
           let own-fits = index-fits s snd q h in
           closed-has clk now (causal-at s snd (suc q) h) G c (eventAt (s .order) q)
-          (record { tablet = own-fits; first = omega arith; last = omega (arith, at-tallies (s .order) q own own-fits) })
+          (record { column = own-fits; first = omega arith; last = omega (arith, at-tallies (s .order) q own own-fits) })
 
   without-new : keep (λ G. not (covered low G) && consistent clk now G) (box now) ≡ cutsTo s q
   unfolding cutsTo
@@ -115,14 +115,14 @@ module _ (s : Store) (snd : Sound s) (q : ℕ) (h : q < s .events) where
           (holds-consistent clk now G (record { most = most; known-in = c .1 .known-in })))
 
   pub one-more : length (cutsTo s (suc q)) ≡ length (cutsTo s q) + length (interval s (suc q))
-  unfolding cutsTo interval range
+  unfolding cutsTo interval cutsBetween
   one-more =
       keep-parts (consistent clk now) (covered low) (box now)
       ∙ ap (λ (Gs : List (List ℕ)). length Gs + length (interval s (suc q))) without-new
 
   -- a cut of the first q + 1 events is in interval q + 1, or a cut of the first q
   pub newest-or-older : (G : List ℕ) → List·Memᴰ G (cutsTo s (suc q)) → List·Memᴰ G (interval s (suc q)) ⊎ List·Memᴰ G (cutsTo s q)
-  unfolding cutsTo interval range
+  unfolding cutsTo interval cutsBetween
   newest-or-older G m =
       let k = keep-from (consistent clk now) (box now) m in
       by-cases (decided (covered low G))

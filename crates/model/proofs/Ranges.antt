@@ -8,11 +8,12 @@ use lib.Dec.{T}
 use lib.ListN.{length}
 use Rattle.model.specs.Lists.{at}
 use Rattle.model.specs.Clocks.{Clocks, covered, known}
-use Rattle.model.specs.Cuts.{closed, consistent, box, range}
+use Rattle.model.specs.Cuts.{closed, consistent, box, cutsBetween}
+use Rattle.model.specs.Lexical.{Rising}
 use Rattle.model.proofs.Tests.{and-left, and-right, and-both, allBelow-at, allBelow-all}
 use Rattle.model.proofs.Entries.{AtMost, covered-at-most, at-most-covered, zeros-at-most}
 use Rattle.model.proofs.Lists.{keep-from, keep-into}
-use Rattle.model.proofs.Lexical.{Rising, keep-rising}
+use Rattle.model.proofs.Lexical.{keep-rising}
 use Rattle.model.proofs.Box.{box-rising, box-from, box-into}
 
 -- what is known at an event is its clock; where there is none, nothing
@@ -58,13 +59,13 @@ module _ (clk : Clocks) (low high : List ℕ) where
   inside : List ℕ → Bool
   inside G = covered low G && consistent clk high G
 
-  pub range-rising : Rising (range clk low high)
-  unfolding range
+  pub range-rising : Rising (cutsBetween clk low high)
+  unfolding cutsBetween
   range-rising = keep-rising (λ G. covered low G && consistent clk high G) (box high) (box-rising high)
 
   module _ (eight-long : length high ≡ 8) where
-    pub range-from : (G : List ℕ) → List·Memᴰ G (range clk low high) → InRange clk low high G
-    unfolding range
+    pub range-from : (G : List ℕ) → List·Memᴰ G (cutsBetween clk low high) → InRange clk low high G
+    unfolding cutsBetween
     range-from G m =
         let k = keep-from (λ G. covered low G && consistent clk high G) (box high) m in
         let w = box-from high G (k .0) in
@@ -74,8 +75,8 @@ module _ (clk : Clocks) (low high : List ℕ) where
           cut = consistent-holds clk high G (and-right (covered low G) (consistent clk high G) (k .1));
         }
 
-    pub range-into : (G : List ℕ) → InRange clk low high G → List·Memᴰ G (range clk low high)
-    unfolding range
+    pub range-into : (G : List ℕ) → InRange clk low high G → List·Memᴰ G (cutsBetween clk low high)
+    unfolding cutsBetween
     range-into G r =
         keep-into (λ G. covered low G && consistent clk high G) (box high)
         (box-into high G

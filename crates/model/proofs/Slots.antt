@@ -9,26 +9,26 @@ use lib.ListN.{length, take, drop, set, length-take, length-drop}
 use lib.Seq.{sets, sets-eq, length-sets, getD-set-other, getD-take, getD-drop, ext-getD, take-at, drop-at, length-take-le}
 use Rattle.model.specs.Lists.{at}
 use Rattle.model.specs.Numbers.{slot}
-use Rattle.model.specs.Clocks.{EventName, clockAt}
+use Rattle.model.specs.Clocks.{EventName, clockIn, clockAt}
 
 -- an event that can be stored: tablets of index 0 to 7, events 1 to 254
 pub record Storable (e : EventName) : Type 0 where
-  pub tablet : e .tablet < 8
+  pub column : e .column < 8
   pub first : 1 ≤ e .number
   pub last : e .number ≤ 254
 
-pub slot-below : (e : EventName) → Storable e → slot (e .tablet) (e .number) < 2032
+pub slot-below : (e : EventName) → Storable e → slot (e .column) (e .number) < 2032
 unfolding slot
-slot-below e h = omega (arith, h .tablet, h .first, h .last)
+slot-below e h = omega (arith, h .column, h .first, h .last)
 
-pub slots-differ : (e f : EventName) → Storable e → Storable f → e ≢ f → slot (e .tablet) (e .number) ≢ slot (f .tablet) (f .number)
+pub slots-differ : (e f : EventName) → Storable e → Storable f → e ≢ f → slot (e .column) (e .number) ≢ slot (f .column) (f .number)
 unfolding slot
 slots-differ e f he hf differ same =
-    by-cases (decLt (e .tablet) (f .tablet)) (λ less. omega (arith, he .first, he .last, hf .first))
-    (λ n. by-cases (decLt (f .tablet) (e .tablet)) (λ less. omega (arith, hf .first, hf .last, he .first))
-    (λ m. let t : e .tablet ≡ f .tablet = omega arith in
+    by-cases (decLt (e .column) (f .column)) (λ less. omega (arith, he .first, he .last, hf .first))
+    (λ n. by-cases (decLt (f .column) (e .column)) (λ less. omega (arith, hf .first, hf .last, he .first))
+    (λ m. let t : e .column ≡ f .column = omega arith in
     let k : e .number ≡ f .number = omega (arith, he .first, hf .first) in
-    differ (λ i. record { tablet = t i; number = k i })))
+    differ (λ i. record { column = t i; number = k i })))
 
 -- a run of writes leaves what lies before it and behind it
 pub sets-other : (l : List ℕ) (a : ℕ) (vs : List ℕ) (x : ℕ) → (x < a) ⊎ (a + length vs ≤ x) → at (sets l a vs) x ≡ at l x
@@ -57,16 +57,26 @@ sets-part l a b vs apart =
     ∙ sym (getD-take 8 (drop b l) x 0 near ∙ getD-drop b l x 0))
 
 -- the clock of an event after a clock was written at another's slot, and at its own
-pub clock-other : (bytes : List ℕ) (e f : EventName) (clock : List ℕ) → length clock ≡ 8 → Storable e → Storable f → e ≢ f → clockAt (sets bytes (8 * slot (f .tablet) (f .number)) clock) (e .tablet) (e .number) ≡ clockAt bytes (e .tablet) (e .number)
-unfolding clockAt
+pub clock-other : (bytes : List ℕ) (e f : EventName) (clock : List ℕ) → length clock ≡ 8 → Storable e → Storable f → e ≢ f → clockAt (sets bytes (8 * slot (f .column) (f .number)) clock) (e .column) (e .number) ≡ clockAt bytes (e .column) (e .number)
+unfolding clockIn
 clock-other bytes e f clock long he hf differ =
-    let a : ℕ = slot (f .tablet) (f .number) in
-    let b : ℕ = slot (e .tablet) (e .number) in
+    let a : ℕ = slot (f .column) (f .number) in
+    let b : ℕ = slot (e .column) (e .number) in
     let ne : b ≢ a = slots-differ e f he hf differ in
-    sets-part bytes (8 * slot (f .tablet) (f .number)) (8 * slot (e .tablet) (e .number)) clock
+    sets-part bytes (8 * slot (f .column) (f .number)) (8 * slot (e .column) (e .number)) clock
     (by-cases (decLt b a) (λ less. inl (omega arith)) (λ n. inr (omega (arith, long))))
 
-pub clock-written : (bytes : List ℕ) (e : EventName) (clock : List ℕ) → length clock ≡ 8 → 16256 ≤ length bytes → Storable e → clockAt (sets bytes (8 * slot (e .tablet) (e .number)) clock) (e .tablet) (e .number) ≡ clock
-unfolding clockAt
+pub clock-written : (bytes : List ℕ) (e : EventName) (clock : List ℕ) → length clock ≡ 8 → 16256 ≤ length bytes → Storable e → clockAt (sets bytes (8 * slot (e .column) (e .number)) clock) (e .column) (e .number) ≡ clock
+unfolding clockIn
 clock-written bytes e clock long full he =
-    sets-there bytes (8 * slot (e .tablet) (e .number)) clock 8 long (omega (arith, slot-below e he))
+    sets-there bytes (8 * slot (e .column) (e .number)) clock 8 long (omega (arith, slot-below e he))
+
+-- an entry of a stored clock is a byte of the buffer
+pub at-clock : (bytes : List ℕ) (s j : ℕ) → j < 8 → at (clockIn bytes s) j ≡ at bytes (8 * s + j)
+unfolding clockIn
+at-clock bytes s j h = getD-take 8 (drop (8 * s) bytes) j 0 h ∙ getD-drop (8 * s) bytes j 0
+
+pub clock-long : (bytes : List ℕ) (e : EventName) → 16256 ≤ length bytes → Storable e → length (clockAt bytes (e .column) (e .number)) ≡ 8
+unfolding clockIn
+clock-long bytes e full he =
+    simp (length-take, length-drop) (omega (arith, slot-below e he))

@@ -3,7 +3,7 @@ use mathlib.Core.Path.{_≡_, sym, ap, _∙_, subst}
 use mathlib.Core.Logic.{_⊎_, inr, ⊎-elim, by-cases}
 use mathlib.Core.Bool.{Bool, cond}
 use mathlib.Core.List.{List, [], _∷_, List·Memᴰ, List·Memᴰ·head, List·Memᴰ·tail, List·Memᴰ·cases-cons, List·Memᴰ·not-nil, Memᴰ·cast}
-use mathlib.Core.Option.{Option, none, some}
+use mathlib.Core.Option.{some}
 use Prim.Native.Nat.{ℕ, zero, suc, _+_, _≤_, _<_}
 use native.Mathlib.Omega.{arith}
 use native.Mathlib.Decide.{ℕ-discrete, decLe}
@@ -11,9 +11,9 @@ use lib.Dec.{T, leb, ltb, leb→le, le→leb, ltb→lt, lt→ltb}
 use lib.ListN.{length}
 use Rattle.model.specs.Lists.{at, keep}
 use Rattle.model.specs.Clocks.{Clocks, EventName, clockOf, known}
-use Rattle.model.specs.Cuts.{Contains, range}
+use Rattle.model.specs.Cuts.{Contains, cutsBetween}
 use Rattle.model.specs.Lexical.{lexBefore}
-use Rattle.model.specs.Step.{canRaise, upTo, least, raised, raiseBelow, step}
+use Rattle.model.specs.Step.{following, canRaise, upTo, least, raised, raiseBelow, step}
 use Rattle.model.proofs.Tests.{and-left, and-right, and-both, allBelow-at, allBelow-all, holds, fails, decided}
 use Rattle.model.proofs.Entries.{AtMost, at-most-trans, at-zeros}
 use Rattle.model.proofs.Lists.{keep-from, keep-into}
@@ -49,7 +49,7 @@ module _ (clk : Clocks) (low high : List ℕ) (bounds : Bounds clk low high) (G 
   raises-first : (H : List ℕ) → InRange clk low high H → (d : ℕ) → d < 8 → DiffersAt G H d → CanRaise clk high G d
   raises-first H r d hd D =
       let next : EventName = event d (at G d + 1) in
-      let knows = closed-has clk high (bounds .causal) H (r .cut) next (record { tablet = hd; first = omega arith; last = omega (arith, D .less) }) in
+      let knows = closed-has clk high (bounds .causal) H (r .cut) next (record { column = hd; first = omega arith; last = omega (arith, D .less) }) in
       record {
         room = omega (arith, D .less, r .cut .most d hd);
         ready = λ j h. omega (arith, knows j (omega arith), D .same j h);
@@ -66,7 +66,7 @@ module _ (clk : Clocks) (low high : List ℕ) (bounds : Bounds clk low high) (G 
         (λ other. omega (arith, up-other clk low G k i other, inside .cut .most i (omega arith)))
 
     up-contained : (i : ℕ) → i ≤ k → 1 ≤ upTo G k i → Contains high (event i (upTo G k i))
-    up-contained i h some-event = record { tablet = omega arith; first = some-event; last = up-high i h }
+    up-contained i h some-event = record { column = omega arith; first = some-event; last = up-high i h }
 
     next-high : AtMost next high
     next-high j hj =
@@ -101,7 +101,7 @@ module _ (clk : Clocks) (low high : List ℕ) (bounds : Bounds clk low high) (G 
         (omega (
           arith,
           ap (λ (X : List ℕ). at X k) (known-event clk k (at G k + 1) (omega arith)),
-          bounds .causal .own (event k (at G k + 1)) (record { tablet = hk; first = omega arith; last = omega (arith, can .room) }),
+          bounds .causal .own (event k (at G k + 1)) (record { column = hk; first = omega arith; last = omega (arith, can .room) }),
         ))))
         (λ other. rw (up-other clk low G k i other) (omega (arith, inside .cut .known-in i (omega arith) k hk)))
 
@@ -183,91 +183,86 @@ module _ (clk : Clocks) (low high : List ℕ) (bounds : Bounds clk low high) (G 
             (λ other. up-other clk low G k j other ∙ D .same j (omega arith))
 
   -- where k is the last tablet that can be raised, what stands behind G is the next cut and what stands behind that
-  step-raises : (k : ℕ) → k < 8 → CanRaise clk high G k → ((j : ℕ) → k < j → j < 8 → CanRaise clk high G j → ⊥) → keep (lexBefore G) (range clk low high) ≡ raised clk low G k ∷ keep (lexBefore (raised clk low G k)) (range clk low high)
+  step-raises : (k : ℕ) → k < 8 → CanRaise clk high G k → ((j : ℕ) → k < j → j < 8 → CanRaise clk high G j → ⊥) → keep (lexBefore G) (cutsBetween clk low high) ≡ raised clk low G k ∷ keep (lexBefore (raised clk low G k)) (cutsBetween clk low high)
   step-raises k hk can last =
       let rising = range-rising clk low high in
-      rising-equal (keep (lexBefore G) (range clk low high)) (raised clk low G k ∷ keep (lexBefore (raised clk low G k)) (range clk low high))
-      (keep-rising (lexBefore G) (range clk low high) rising) (
-        λ H m. keep-from (lexBefore (raised clk low G k)) (range clk low high) m .1,
-        keep-rising (lexBefore (raised clk low G k)) (range clk low high) rising,
+      rising-equal (keep (lexBefore G) (cutsBetween clk low high)) (raised clk low G k ∷ keep (lexBefore (raised clk low G k)) (cutsBetween clk low high))
+      (keep-rising (lexBefore G) (cutsBetween clk low high) rising) (
+        λ H m. keep-from (lexBefore (raised clk low G k)) (cutsBetween clk low high) m .1,
+        keep-rising (lexBefore (raised clk low G k)) (cutsBetween clk low high) rising,
       )
       into
       back
     where
-      into : (H : List ℕ) → List·Memᴰ H (keep (lexBefore G) (range clk low high)) → List·Memᴰ H (raised clk low G k ∷ keep (lexBefore (raised clk low G k)) (range clk low high))
+      into : (H : List ℕ) → List·Memᴰ H (keep (lexBefore G) (cutsBetween clk low high)) → List·Memᴰ H (raised clk low G k ∷ keep (lexBefore (raised clk low G k)) (cutsBetween clk low high))
       into H m =
-          let f = keep-from (lexBefore G) (range clk low high) m in
+          let f = keep-from (lexBefore G) (cutsBetween clk low high) m in
           let r = range-from clk low high (bounds .long) H (f .0) in
           let D = lex-differs G H (inside .long ∙ sym (r .long)) (f .1) in
           let hd : D .0 < 8 = omega (arith, D .1, inside .long) in
           by-cases (decLe (D .0) k)
-          (λ near. ⊎-elim (λ e. List·Memᴰ·head (sym e)) (λ t. List·Memᴰ·tail (keep-into (lexBefore (raised clk low G k)) (range clk low high) (f .0) t))
+          (λ near. ⊎-elim (λ e. List·Memᴰ·head (sym e)) (λ t. List·Memᴰ·tail (keep-into (lexBefore (raised clk low G k)) (cutsBetween clk low high) (f .0) t))
           (next-or-behind k hk can H r (D .0) near (D .2)))
           (λ far. absurd (last (D .0) (omega arith) hd (raises-first H r (D .0) hd (D .2))))
 
-      back : (H : List ℕ) → List·Memᴰ H (raised clk low G k ∷ keep (lexBefore (raised clk low G k)) (range clk low high)) → List·Memᴰ H (keep (lexBefore G) (range clk low high))
+      back : (H : List ℕ) → List·Memᴰ H (raised clk low G k ∷ keep (lexBefore (raised clk low G k)) (cutsBetween clk low high)) → List·Memᴰ H (keep (lexBefore G) (cutsBetween clk low high))
       back H m =
           ⊎-elim
-          (λ e. Memᴰ·cast e (keep-into (lexBefore G) (range clk low high) (range-into clk low high (bounds .long) (raised clk low G k) (next-inside k hk can)) (next-behind k hk can)))
-          (λ n. let f = keep-from (lexBefore (raised clk low G k)) (range clk low high) n in
-          keep-into (lexBefore G) (range clk low high) (f .0) (lex-trans G (raised clk low G k) H (next-behind k hk can) (f .1)))
+          (λ e. Memᴰ·cast e (keep-into (lexBefore G) (cutsBetween clk low high) (range-into clk low high (bounds .long) (raised clk low G k) (next-inside k hk can)) (next-behind k hk can)))
+          (λ n. let f = keep-from (lexBefore (raised clk low G k)) (cutsBetween clk low high) n in
+          keep-into (lexBefore G) (cutsBetween clk low high) (f .0) (lex-trans G (raised clk low G k) H (next-behind k hk can) (f .1)))
           (List·Memᴰ·cases-cons m)
 
   -- where none can be raised, nothing stands behind G
-  step-ends : ((j : ℕ) → j < 8 → CanRaise clk high G j → ⊥) → keep (lexBefore G) (range clk low high) ≡ []
+  step-ends : ((j : ℕ) → j < 8 → CanRaise clk high G j → ⊥) → keep (lexBefore G) (cutsBetween clk low high) ≡ []
   step-ends stuck =
-      rising-equal (keep (lexBefore G) (range clk low high)) [] (keep-rising (lexBefore G) (range clk low high) (range-rising clk low high)) tt
+      rising-equal (keep (lexBefore G) (cutsBetween clk low high)) [] (keep-rising (lexBefore G) (cutsBetween clk low high) (range-rising clk low high)) tt
       none-behind
       (λ H m. absurd (List·Memᴰ·not-nil m))
     where
-      none-behind : (H : List ℕ) → List·Memᴰ H (keep (lexBefore G) (range clk low high)) → List·Memᴰ H []
+      none-behind : (H : List ℕ) → List·Memᴰ H (keep (lexBefore G) (cutsBetween clk low high)) → List·Memᴰ H []
       none-behind H m =
-          let f = keep-from (lexBefore G) (range clk low high) m in
+          let f = keep-from (lexBefore G) (cutsBetween clk low high) m in
           let r = range-from clk low high (bounds .long) H (f .0) in
           let D = lex-differs G H (inside .long ∙ sym (r .long)) (f .1) in
           let hd : D .0 < 8 = omega (arith, D .1, inside .long) in
           absurd (stuck (D .0) hd (raises-first H r (D .0) hd (D .2)))
 
--- what stands behind a cut, told by the step from it
-abbrev pub following : Clocks → List ℕ → List ℕ → Option (List ℕ) → List (List ℕ)
-following clk low high none = []
-following clk low high (some H) = H ∷ keep (lexBefore H) (range clk low high)
-
 module _ (clk : Clocks) (low high : List ℕ) (bounds : Bounds clk low high) (G : List ℕ) (inside : InRange clk low high G) where
-  from-below : (m : ℕ) → m ≤ 8 → ((j : ℕ) → m ≤ j → j < 8 → CanRaise clk high G j → ⊥) → keep (lexBefore G) (range clk low high) ≡ following clk low high (raiseBelow clk low high G m)
+  from-below : (m : ℕ) → m ≤ 8 → ((j : ℕ) → m ≤ j → j < 8 → CanRaise clk high G j → ⊥) → keep (lexBefore G) (cutsBetween clk low high) ≡ following (cutsBetween clk low high) (raiseBelow clk low high G m)
   from-below zero h stuck = step-ends clk low high bounds G inside (λ j hj. stuck j (omega arith) hj)
   from-below (suc k) h stuck =
       by-cases (decided (canRaise clk high G k))
       (λ t. step-raises clk low high bounds G inside k (omega arith) (can-raise clk high G k t) (λ j hj. stuck j (omega arith))
-      ∙ sym (ap (λ (b : Bool). following clk low high (cond b (some (raised clk low G k)) (raiseBelow clk low high G k))) (holds (canRaise clk high G k) t)))
+      ∙ sym (ap (λ (b : Bool). following (cutsBetween clk low high) (cond b (some (raised clk low G k)) (raiseBelow clk low high G k))) (holds (canRaise clk high G k) t)))
       (λ n. from-below k (omega arith)
       (λ j hj h8. by-cases (ℕ-discrete j k)
       (λ e. λ c. n (raise-can clk high G k (subst (CanRaise clk high G) e c)))
       (λ other. stuck j (omega arith) h8))
-      ∙ sym (ap (λ (b : Bool). following clk low high (cond b (some (raised clk low G k)) (raiseBelow clk low high G k))) (fails (canRaise clk high G k) n)))
+      ∙ sym (ap (λ (b : Bool). following (cutsBetween clk low high) (cond b (some (raised clk low G k)) (raiseBelow clk low high G k))) (fails (canRaise clk high G k) n)))
 
   -- Theorem 9: the step from a cut of a range gives the next, or says that there is none
-  pub step-next : keep (lexBefore G) (range clk low high) ≡ following clk low high (step clk low high G)
+  pub step-next : keep (lexBefore G) (cutsBetween clk low high) ≡ following (cutsBetween clk low high) (step clk low high G)
   unfolding step
   step-next = from-below 8 (omega arith) (λ j high-j h8. let z : ⊥ = omega arith in absurd z)
 
 -- the first cut of a range is its lower bound
-pub range-first : (clk : Clocks) (low high : List ℕ) → Bounds clk low high → length low ≡ 8 → range clk low high ≡ low ∷ keep (lexBefore low) (range clk low high)
+pub range-first : (clk : Clocks) (low high : List ℕ) → Bounds clk low high → length low ≡ 8 → cutsBetween clk low high ≡ low ∷ keep (lexBefore low) (cutsBetween clk low high)
 range-first clk low high bounds long =
-    rising-equal (range clk low high) (low ∷ keep (lexBefore low) (range clk low high)) (range-rising clk low high)
-    (λ H m. keep-from (lexBefore low) (range clk low high) m .1, keep-rising (lexBefore low) (range clk low high) (range-rising clk low high))
+    rising-equal (cutsBetween clk low high) (low ∷ keep (lexBefore low) (cutsBetween clk low high)) (range-rising clk low high)
+    (λ H m. keep-from (lexBefore low) (cutsBetween clk low high) m .1, keep-rising (lexBefore low) (cutsBetween clk low high) (range-rising clk low high))
     into
     back
   where
-    into : (H : List ℕ) → List·Memᴰ H (range clk low high) → List·Memᴰ H (low ∷ keep (lexBefore low) (range clk low high))
+    into : (H : List ℕ) → List·Memᴰ H (cutsBetween clk low high) → List·Memᴰ H (low ∷ keep (lexBefore low) (cutsBetween clk low high))
     into H m =
         let r = range-from clk low high (bounds .long) H m in
-        ⊎-elim (λ e. List·Memᴰ·head (sym e)) (λ t. List·Memᴰ·tail (keep-into (lexBefore low) (range clk low high) m t))
+        ⊎-elim (λ e. List·Memᴰ·head (sym e)) (λ t. List·Memᴰ·tail (keep-into (lexBefore low) (cutsBetween clk low high) m t))
         (at-most-lex low H (long ∙ sym (r .long)) (λ j h. r .least j (omega (arith, long))))
 
-    back : (H : List ℕ) → List·Memᴰ H (low ∷ keep (lexBefore low) (range clk low high)) → List·Memᴰ H (range clk low high)
+    back : (H : List ℕ) → List·Memᴰ H (low ∷ keep (lexBefore low) (cutsBetween clk low high)) → List·Memᴰ H (cutsBetween clk low high)
     back H m =
         ⊎-elim
         (λ e. Memᴰ·cast e (range-into clk low high (bounds .long) low (record { long = long; least = λ j h. omega arith; cut = bounds .bottom })))
-        (λ n. keep-from (lexBefore low) (range clk low high) n .0)
+        (λ n. keep-from (lexBefore low) (cutsBetween clk low high) n .0)
         (List·Memᴰ·cases-cons m)

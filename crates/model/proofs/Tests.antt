@@ -1,10 +1,11 @@
 -- Laws of tests: a conjunction, a condition, and `allBelow` read at an index and built from every index.
-use mathlib.Core.Path.{_≡_, refl, ap₂}
+use mathlib.Core.Path.{_≡_, refl, sym, ap, ap₂, _∙_}
 use mathlib.Core.Logic.{by-cases}
-use mathlib.Core.Bool.{Bool, true, false, false≢true, _&&_}
+use mathlib.Core.Bool.{Bool, true, false, false≢true, true≢false, _&&_}
 use Prim.Native.Nat.{ℕ, zero, suc, _+_, _<_}
 use native.Mathlib.Nat.{not-suc-le-zero}
 use native.Mathlib.Decide.{ℕ-discrete}
+use native.Mathlib.Numerals.{add-one}
 use native.Mathlib.Omega.{arith}
 use lib.Dec.{T}
 use Rattle.model.specs.Lists.{allBelow, sumBelow}
@@ -59,6 +60,14 @@ pub allBelow-all : (n : ℕ) (test : ℕ → Bool) → ((j : ℕ) → j < n → 
 allBelow-all zero test f = tt
 allBelow-all (suc n) test f =
     and-both (allBelow n test) (test n) (allBelow-all n test (λ j h. f j (omega arith))) (f n (omega arith))
+
+-- the same for a loop that counts up: one more, and the first failure
+pub allBelow-more : (n : ℕ) (test : ℕ → Bool) → allBelow n test ≡ true → test n ≡ true → allBelow (n + 1) test ≡ true
+allBelow-more n test before here = ap (λ (m : ℕ). allBelow m test) (add-one n) ∙ ap₂ _&&_ before here
+
+pub allBelow-stop : (m n : ℕ) (test : ℕ → Bool) → n < m → test n ≡ false → allBelow m test ≡ false
+allBelow-stop m n test h stop =
+    fails (allBelow m test) (λ t. true≢false (sym (holds (test n) (allBelow-at m test t n h)) ∙ stop))
 
 -- what agrees below n has the same conjunction and the same sum
 pub allBelow-same : (n : ℕ) (test other : ℕ → Bool) → ((j : ℕ) → j < n → test j ≡ other j) → allBelow n test ≡ allBelow n other

@@ -10,7 +10,7 @@ use lib.Dec.{T}
 use lib.ListN.{getD}
 use Rattle.model.specs.Lists.{sumBelow}
 use Rattle.model.specs.Clocks.{Clocks}
-use Rattle.model.specs.Follow.{indexAt, tally, followTo}
+use Rattle.model.specs.Follow.{columnAt, tally, followTo}
 use Rattle.model.proofs.Tests.{sumBelow-same}
 use Rattle.model.proofs.Valid.{at-tallies, tally-own, tally-other, follow-before, follow-at}
 
@@ -36,29 +36,36 @@ sum-below (suc m) f own h less most =
 
 module _ (n : ℕ) (narrow : n ≤ 8) (clk : Clocks) (order : List ℕ) where
   -- the tablet at a position that passed, by its index
-  own-below : (p : ℕ) → T (followTo n clk order (suc p)) → indexAt order p < 8
-  own-below p t = let f = follow-at n clk order p t in omega (arith, f .positive, f .tablet)
+  own-below : (p : ℕ) → T (followTo n clk order (suc p)) → columnAt order p < 8
+  own-below p t = let f = follow-at n clk order p t in omega (arith, f .positive, f .listed)
 
-  own-byte : (p : ℕ) → T (followTo n clk order (suc p)) → getD order p 0 ≡ suc (indexAt order p)
+  own-byte : (p : ℕ) → T (followTo n clk order (suc p)) → getD order p 0 ≡ suc (columnAt order p)
   own-byte p t = omega (arith, follow-at n clk order p t .positive)
 
-  other-byte : (p j : ℕ) → T (followTo n clk order (suc p)) → j ≢ indexAt order p → getD order p 0 ≢ suc j
+  other-byte : (p j : ℕ) → T (followTo n clk order (suc p)) → j ≢ columnAt order p → getD order p 0 ≢ suc j
   other-byte p j t other = omega (arith, follow-at n clk order p t .positive)
 
   pub tallies-sum : (p : ℕ) → T (followTo n clk order p) → sumBelow 8 (tally order p) ≡ p
   tallies-sum zero t = refl
   tallies-sum (suc p) t =
-      sum-raised 8 (tally order p) (tally order (suc p)) (indexAt order p) (own-below p t)
-      (tally-own order p (indexAt order p) (own-byte p t))
+      sum-raised 8 (tally order p) (tally order (suc p)) (columnAt order p) (own-below p t)
+      (tally-own order p (columnAt order p) (own-byte p t))
       (λ j other. tally-other order p j (other-byte p j t other))
       ∙ ap suc (tallies-sum p (follow-before n clk order p t))
 
   pub tally-bounded : (p : ℕ) → T (followTo n clk order p) → (j : ℕ) → tally order p j ≤ 254
   tally-bounded zero t j = omega arith
   tally-bounded (suc p) t j =
-      by-cases (ℕ-discrete j (indexAt order p))
-      (λ e. rw e (omega (arith, tally-own order p (indexAt order p) (own-byte p t), at-tallies order p (indexAt order p) (own-below p t), follow-at n clk order p t .room)))
+      by-cases (ℕ-discrete j (columnAt order p))
+      (λ e. rw e (omega (arith, tally-own order p (columnAt order p) (own-byte p t), at-tallies order p (columnAt order p) (own-below p t), follow-at n clk order p t .room)))
       (λ other. omega (arith, tally-other order p j (other-byte p j t other), tally-bounded p (follow-before n clk order p t) j))
+
+  -- a tablet above n has no event
+  pub tally-above : (p : ℕ) → T (followTo n clk order p) → (j : ℕ) → n ≤ j → tally order p j ≡ 0
+  tally-above zero t j h = refl
+  tally-above (suc p) t j h =
+      let byte : getD order p 0 ≢ suc j = omega (arith, follow-at n clk order p t .listed) in
+      tally-other order p j byte ∙ tally-above p (follow-before n clk order p t) j h
 
   -- where a tablet still has room there is room in all
   pub room-left : (p : ℕ) → T (followTo n clk order p) → (own : ℕ) → own < 8 → tally order p own < 254 → p < 2032

@@ -10,7 +10,7 @@ use lib.Dec.{T, eqb→eq}
 use lib.ListN.{length, getD}
 use Rattle.model.specs.Lists.{at}
 use Rattle.model.specs.Clocks.{Clocks, EventName, clockOf, known}
-use Rattle.model.specs.Follow.{indexAt, tally, tallies, eventAt, lastKnown, followTo}
+use Rattle.model.specs.Follow.{columnAt, tally, tallies, eventAt, lastKnown, followTo}
 use Rattle.model.specs.Cuts.{Contains}
 use Rattle.model.proofs.Tests.{and-left, and-right}
 use Rattle.model.proofs.Entries.{AtMost, at-most-trans, at-eight, length-eight}
@@ -64,25 +64,25 @@ module _ (n : ℕ) (clk : Clocks) (order : List ℕ) where
 pub contained-at : (n : ℕ) → n ≤ 8 → (clk : Clocks) (order : List ℕ) (p : ℕ) → T (followTo n clk order (suc p)) → Contains (tallies order (suc p)) (eventAt order p)
 contained-at n narrow clk order p t =
     let f = follow-at n clk order p t in
-    let own : indexAt order p < 8 = omega (arith, f .positive, f .tablet) in
-    let byte : getD order p 0 ≡ suc (indexAt order p) = omega (arith, f .positive) in
+    let own : columnAt order p < 8 = omega (arith, f .positive, f .listed) in
+    let byte : getD order p 0 ≡ suc (columnAt order p) = omega (arith, f .positive) in
     record {
-      tablet = own;
+      column = own;
       first = omega arith;
-      last = omega (arith, at-tallies order (suc p) (indexAt order p) own, tally-own order p (indexAt order p) byte);
+      last = omega (arith, at-tallies order (suc p) (columnAt order p) own, tally-own order p (columnAt order p) byte);
     }
 
 -- an event of the first p + 1 is one of the first p, or the one at position p + 1
-pub new-or-old : (order : List ℕ) (p : ℕ) → 1 ≤ getD order p 0 → (e : EventName) → Contains (tallies order (suc p)) e → Contains (tallies order p) e ⊎ ((e .tablet ≡ indexAt order p) × (e .number ≡ eventAt order p .number))
+pub new-or-old : (order : List ℕ) (p : ℕ) → 1 ≤ getD order p 0 → (e : EventName) → Contains (tallies order (suc p)) e → Contains (tallies order p) e ⊎ ((e .column ≡ columnAt order p) × (e .number ≡ eventAt order p .number))
 new-or-old order p positive e c =
-    let now = at-tallies order (suc p) (e .tablet) (c .tablet) in
-    let was = at-tallies order p (e .tablet) (c .tablet) in
-    by-cases (decLe (e .number) (tally order p (e .tablet)))
-    (λ h. inl (record { tablet = c .tablet; first = c .first; last = omega (arith, was) }))
-    (λ h. by-cases (ℕ-discrete (getD order p 0) (suc (e .tablet)))
-    (λ same. let here : e .tablet ≡ indexAt order p = omega arith in
-    inr (here, subst (λ (j : ℕ). e .number ≡ tally order p j + 1) here (omega (arith, now, c .last, tally-own order p (e .tablet) same))))
-    (λ other. let z : ⊥ = omega (arith, now, c .last, tally-other order p (e .tablet) other) in absurd z))
+    let now = at-tallies order (suc p) (e .column) (c .column) in
+    let was = at-tallies order p (e .column) (c .column) in
+    by-cases (decLe (e .number) (tally order p (e .column)))
+    (λ h. inl (record { column = c .column; first = c .first; last = omega (arith, was) }))
+    (λ h. by-cases (ℕ-discrete (getD order p 0) (suc (e .column)))
+    (λ same. let here : e .column ≡ columnAt order p = omega arith in
+    inr (here, subst (λ (j : ℕ). e .number ≡ tally order p j + 1) here (omega (arith, now, c .last, tally-own order p (e .column) same))))
+    (λ other. let z : ⊥ = omega (arith, now, c .last, tally-other order p (e .column) other) in absurd z))
 
 pub tallies-grow : (order : List ℕ) (p q : ℕ) → p ≤ q → AtMost (tallies order p) (tallies order q)
 tallies-grow order p q h j hj =
@@ -91,7 +91,7 @@ tallies-grow order p q h j hj =
 -- one more event: what holds of the events before it, and of it, holds of all
 module _ (n : ℕ) (narrow : n ≤ 8) (clk : Clocks) (order : List ℕ) (p : ℕ) (follows : Follows n clk (tallies order p) (getD order p 0) (clockOf clk (eventAt order p))) (before : Causal clk (tallies order p)) where
   own : ℕ
-  own = indexAt order p
+  own = columnAt order p
 
   new : EventName
   new = eventAt order p
@@ -99,12 +99,12 @@ module _ (n : ℕ) (narrow : n ≤ 8) (clk : Clocks) (order : List ℕ) (p : ℕ
   each : (P : EventName → Type 0) → ((e : EventName) → Contains (tallies order p) e → P e) → P new → (e : EventName) → Contains (tallies order (suc p)) e → P e
   unfolding new
   each P old here e c =
-      ⊎-elim (old e) (λ h. subst P (λ i. record { tablet = sym (h .0) i; number = sym (h .1) i }) here)
+      ⊎-elim (old e) (λ h. subst P (λ i. record { column = sym (h .0) i; number = sym (h .1) i }) here)
       (new-or-old order p (follows .positive) e c)
 
   own-index : own < 8
   unfolding own
-  own-index = omega (arith, follows .positive, follows .tablet)
+  own-index = omega (arith, follows .positive, follows .listed)
 
   -- the tallies before and after, at the new event's tablet
   was : at (tallies order p) own ≡ tally order p own
@@ -124,14 +124,14 @@ module _ (n : ℕ) (narrow : n ≤ 8) (clk : Clocks) (order : List ℕ) (p : ℕ
   unfolding own new
   next-new k h e =
       let last : at (tallies order p) own ≡ k = omega (arith, was) in
-      let mine : lastKnown (tallies order p) own (clockOf clk new) own ≡ k = simp (eq-eqb own own refl, last) in
+      let mine : lastKnown own own (at (tallies order p) own) (at (clockOf clk new) own) ≡ k = simp (eq-eqb own own refl, last) in
       subst (λ (X : List ℕ). AtMost X (clockOf clk new)) (known-event clk own k h)
       (subst (λ (m : ℕ). AtMost (known clk own m) (clockOf clk new)) mine (follows .covering own own-index))
 
   told-new : (i : ℕ) → i < 8 → i ≢ own → 1 ≤ at (clockOf clk new) i → AtMost (clk i (at (clockOf clk new) i)) (clockOf clk new)
   unfolding own new
   told-new i hi other named =
-      let its : lastKnown (tallies order p) own (clockOf clk new) i ≡ at (clockOf clk new) i = simp (ne-eqb i own other) in
+      let its : lastKnown own i (at (tallies order p) i) (at (clockOf clk new) i) ≡ at (clockOf clk new) i = simp (ne-eqb i own other) in
       subst (λ (X : List ℕ). AtMost X (clockOf clk new)) (known-event clk i (at (clockOf clk new) i) named)
       (subst (λ (m : ℕ). AtMost (known clk i m) (clockOf clk new)) its (follows .covering i hi))
 
@@ -147,7 +147,7 @@ module _ (n : ℕ) (narrow : n ≤ 8) (clk : Clocks) (order : List ℕ) (p : ℕ
       let e : EventName = event i (at (clockOf clk new) i) in
       omega (
         arith,
-        before .within e (record { tablet = hi; first = named; last = follows .others i hi other }) own own-index,
+        before .within e (record { column = hi; first = named; last = follows .others i hi other }) own own-index,
         was,
       )
 
@@ -155,32 +155,32 @@ module _ (n : ℕ) (narrow : n ≤ 8) (clk : Clocks) (order : List ℕ) (p : ℕ
   unfolding own new
   causal-next =
       record {
-        own = each (λ e. at (clockOf clk e) (e .tablet) ≡ e .number) (before .own) own-entry;
+        own = each (λ e. at (clockOf clk e) (e .column) ≡ e .number) (before .own) own-entry;
         next = λ j k hj h1 h. each
-            (λ e. (k : ℕ) → 1 ≤ k → e .number ≡ suc k → AtMost (clk (e .tablet) k) (clockOf clk e))
-            (λ e c k h e=. subst (λ (m : ℕ). AtMost (clk (e .tablet) k) (clk (e .tablet) m)) (sym e=) (before .next (e .tablet) k (c .tablet) h (omega (arith, c .last))))
+            (λ e. (k : ℕ) → 1 ≤ k → e .number ≡ suc k → AtMost (clk (e .column) k) (clockOf clk e))
+            (λ e c k h e=. subst (λ (m : ℕ). AtMost (clk (e .column) k) (clk (e .column) m)) (sym e=) (before .next (e .column) k (c .column) h (omega (arith, c .last))))
             next-new
             (event j (suc k))
-            (record { tablet = hj; first = omega arith; last = h })
+            (record { column = hj; first = omega arith; last = h })
             k
             h1
             refl;
         told = each
-            (λ e. (i : ℕ) → i < 8 → i ≢ e .tablet → 1 ≤ at (clockOf clk e) i → AtMost (clk i (at (clockOf clk e) i)) (clockOf clk e))
+            (λ e. (i : ℕ) → i < 8 → i ≢ e .column → 1 ≤ at (clockOf clk e) i → AtMost (clk i (at (clockOf clk e) i)) (clockOf clk e))
             (before .told)
             told-new;
         within = each (λ e. AtMost (clockOf clk e) (tallies order (suc p)))
             (λ e c. at-most-trans (clockOf clk e) (tallies order p) (tallies order (suc p)) (before .within e c) (tallies-grow order p (suc p) (omega arith)))
             within-new;
         fresh = each
-            (λ e. (i : ℕ) → i < 8 → i ≢ e .tablet → 1 ≤ at (clockOf clk e) i → at (clk i (at (clockOf clk e) i)) (e .tablet) < e .number)
+            (λ e. (i : ℕ) → i < 8 → i ≢ e .column → 1 ≤ at (clockOf clk e) i → at (clk i (at (clockOf clk e) i)) (e .column) < e .number)
             (before .fresh)
             fresh-new;
       }
 
 -- no event yet: nothing to say
 no-event : (order : List ℕ) (e : EventName) → Contains (tallies order 0) e → ⊥
-no-event order e c = omega (arith, at-tallies order 0 (e .tablet) (c .tablet), c .first, c .last)
+no-event order e c = omega (arith, at-tallies order 0 (e .column) (c .column), c .first, c .last)
 
 -- Theorem 2: the clocks of a trace whose events each may follow are causal, after each position
 pub causal-of-valid : (n : ℕ) → n ≤ 8 → (clk : Clocks) (order : List ℕ) (p : ℕ) → T (followTo n clk order p) → Causal clk (tallies order p)

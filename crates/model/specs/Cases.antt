@@ -3,14 +3,15 @@ use Prim.Native.Nat.{ℕ, suc}
 use mathlib.Core.Bool.{Bool, true, false, not, _&&_}
 use mathlib.Core.List.{List, [], _∷_, map}
 use lib.Dec.{eqb}
-use lib.ListN.{length, replicate}
+use lib.ListN.{length, replicate, take, drop}
 use Rattle.model.specs.declared.Event.{Event}
 use Rattle.model.specs.declared.Question.{Question}
 use Rattle.model.specs.declared.Question.the-variants.{AtLeast, Exactly, All}
 use Rattle.model.specs.declared.Range.the-variants.{Whole}
 use Rattle.model.specs.Lists.{at, eight, allBelow}
-use Rattle.model.specs.Follow.{tallies}
-use Rattle.model.specs.Store.{Store, clocksOf, talliesOf, valid, accepted, eventRefusal}
+use Rattle.model.specs.Refusals.{orElse}
+use Rattle.model.specs.Follow.{tallies, followRefusal}
+use Rattle.model.specs.Store.{Store, clocksOf, talliesOf, storeRefusal, accepted, eventRefusal}
 use Rattle.model.specs.Cuts.{consistent, interval, allCuts, total}
 use Rattle.model.specs.Questions.{meets, Witness, answer}
 
@@ -22,8 +23,8 @@ wide entries = eight (at entries)
 abbrev pub event : ℕ → List ℕ → ℕ → Event
 event tablet clock held = record { tablet = record { 0 = tablet }; clock = wide clock; held = held }
 
-abbrev pub opened : ℕ → Store
-opened n =
+abbrev pub blank : ℕ → Store
+blank n =
     record { tablets = n; events = 0; clocks = replicate 16256 0; held = replicate 2032 0; order = replicate 2032 0 }
 
 -- the store after some events, none of which is tested here
@@ -32,7 +33,14 @@ afterAll s [] = s
 afterAll s (e ∷ es) = afterAll (accepted s e) es
 
 abbrev pub day : ℕ → List Event → Store
-day n es = afterAll (opened n) es
+day n es = afterAll (blank n) es
+
+-- a store that no call refuses, and the refusal of an event offered to one
+abbrev pub sound : Store → Bool
+sound s = eqb (storeRefusal s) 0
+
+abbrev pub offered : Store → Event → ℕ
+offered s e = orElse (storeRefusal s) (eventRefusal s e)
 
 abbrev pub same : List ℕ → List ℕ → Bool
 same [] [] = true
@@ -101,12 +109,12 @@ noPrefix s q =
 abbrev pub table : List Bool
 table =
     -- A: cuts 0,0 0,1 1,0 1,1 2,0 2,1 2,2; intervals 1,1,2,2,1.
-    valid traceA
+    sound traceA
     ∷ sameCuts (allCuts traceA) cutsOfA
     ∷ same (counts traceA) (1 ∷ 1 ∷ 2 ∷ 2 ∷ 1 ∷ [])
     ∷ eqb (total traceA) 7
     -- A's events in tablet order 1,1,2,2: intervals 1,1,1,3,1.
-    ∷ valid traceA-by-tablet
+    ∷ sound traceA-by-tablet
     ∷ sameCuts (allCuts traceA-by-tablet) cutsOfA
     ∷ same (counts traceA-by-tablet) (1 ∷ 1 ∷ 1 ∷ 3 ∷ 1 ∷ [])
     -- A: 0,2 and 1,2 are not consistent.
@@ -117,25 +125,40 @@ table =
     ∷ found (asked traceA (Exactly 0)) (0 ∷ 0 ∷ [])
     ∷ found (asked traceA (All 2)) (2 ∷ 2 ∷ [])
     -- B: 9 cuts; at least 2 gives 1,1, though no prefix of B's own order has it.
-    ∷ valid traceB
+    ∷ sound traceB
     ∷ eqb (length (allCuts traceB)) 9
     ∷ found (asked traceB (AtLeast 2)) (1 ∷ 1 ∷ [])
     ∷ noPrefix traceB (AtLeast 2)
     -- n=3, no events: one cut; at least 1, none.
-    ∷ valid quiet
+    ∷ sound quiet
     ∷ eqb (length (allCuts quiet)) 1
     ∷ none (asked quiet (AtLeast 1))
     -- After A's first two, 2/2,2 is refused 6. After A's first, 1/3,0 and 1/1,0 are refused 5.
-    ∷ eqb (eventRefusal (day 2 (a1 ∷ a2 ∷ [])) (event 2 (2 ∷ 2 ∷ []) 1)) 6
-    ∷ eqb (eventRefusal (day 2 (a1 ∷ [])) (event 1 (3 ∷ 0 ∷ []) 0)) 5
-    ∷ eqb (eventRefusal (day 2 (a1 ∷ [])) (event 1 (1 ∷ 0 ∷ []) 0)) 5
+    ∷ eqb (offered (day 2 (a1 ∷ a2 ∷ [])) (event 2 (2 ∷ 2 ∷ []) 1)) 6
+    ∷ eqb (offered (day 2 (a1 ∷ [])) (event 1 (3 ∷ 0 ∷ []) 0)) 5
+    ∷ eqb (offered (day 2 (a1 ∷ [])) (event 1 (1 ∷ 0 ∷ []) 0)) 5
     -- n=3 after 1/1,0,0 and 2/1,1,0: 3/0,1,1 is refused 7, as is 2/0,2,0; 3/1,1,1 is accepted.
-    ∷ valid handover
-    ∷ eqb (eventRefusal handover (event 3 (0 ∷ 1 ∷ 1 ∷ []) 0)) 7
-    ∷ eqb (eventRefusal handover (event 2 (0 ∷ 2 ∷ 0 ∷ []) 0)) 7
-    ∷ eqb (eventRefusal handover (event 3 (1 ∷ 1 ∷ 1 ∷ []) 0)) 0
+    ∷ sound handover
+    ∷ eqb (offered handover (event 3 (0 ∷ 1 ∷ 1 ∷ []) 0)) 7
+    ∷ eqb (offered handover (event 2 (0 ∷ 2 ∷ 0 ∷ []) 0)) 7
+    ∷ eqb (offered handover (event 3 (1 ∷ 1 ∷ 1 ∷ []) 0)) 0
     ∷ []
 
 abbrev pub passed : List Bool → Bool
 passed [] = true
 passed (test ∷ tests) = test && passed tests
+
+-- Not starred: the layout of "The store" with its numbers written out, since reading and writing share one definition of
+-- it; and the order of the refusals of a full tablet, "4, 8, 5".
+abbrev pub layout : List Bool
+layout =
+    same (take 8 (drop 0 (traceA .clocks))) (wide (1 ∷ 0 ∷ []))
+    ∷ same (take 8 (drop 8 (traceA .clocks))) (wide (2 ∷ 0 ∷ []))
+    ∷ same (take 8 (drop 2032 (traceA .clocks))) (wide (0 ∷ 1 ∷ []))
+    ∷ same (take 8 (drop 2040 (traceA .clocks))) (wide (2 ∷ 2 ∷ []))
+    ∷ eqb (at (traceA .held) 0) 1
+    ∷ eqb (at (traceA .held) 255) 1
+    ∷ same (take 5 (traceA .order)) (1 ∷ 2 ∷ 1 ∷ 2 ∷ 0 ∷ [])
+    ∷ eqb (followRefusal 2 (clocksOf quiet) (254 ∷ 0 ∷ []) 1 (1 ∷ 0 ∷ [])) 8
+    ∷ eqb (followRefusal 2 (clocksOf quiet) (254 ∷ 0 ∷ []) 3 (1 ∷ 0 ∷ [])) 4
+    ∷ []

@@ -7,21 +7,24 @@ use lib.ListN.{take, drop}
 use Rattle.model.specs.Lists.{at, zeros, allBelow}
 use Rattle.model.specs.Numbers.{slot}
 
--- an event by the index of its tablet and its number there, from 1
+-- an event by the column of its tablet and its number there, from 1
 pub record EventName : Type 0 where
-  pub tablet : ℕ
+  pub column : ℕ
   pub number : ℕ
 
--- the clocks of a trace, by tablet index and event number: the mathematics is over any such function
+-- the clocks of a trace, by column and event number: the mathematics is over any such function
 abbrev pub Clocks : Type 0
 Clocks = ℕ → ℕ → List ℕ
 
 abbrev pub clockOf : Clocks → EventName → List ℕ
-clockOf clk e = clk (e .tablet) (e .number)
+clockOf clk e = clk (e .column) (e .number)
 
 -- "clocks: 16,256 bytes; slot s at bytes 8s to 8s+7."
-unfoldable pub clockAt : List ℕ → Clocks
-clockAt bytes j k = take 8 (drop (8 * slot j k) bytes)
+unfoldable pub clockIn : List ℕ → ℕ → List ℕ
+clockIn bytes s = take 8 (drop (8 * s) bytes)
+
+abbrev pub clockAt : List ℕ → Clocks
+clockAt bytes j k = clockIn bytes (slot j k)
 
 -- "at most .. in each entry": U is at most W in each of the eight entries
 unfoldable pub covered : List ℕ → List ℕ → Bool

@@ -1,4 +1,5 @@
 -- Document 01, "Cuts and intervals". A cut is its list of eight entries.
+use mathlib.Core.Path.{_≡_}
 use Prim.Native.Nat.{ℕ, zero, suc, _≤_, _<_}
 use mathlib.Core.Bool.{Bool, _&&_}
 use mathlib.Core.List.{List, [], _∷_, _++_, map}
@@ -13,9 +14,9 @@ use Rattle.model.specs.Store.{Store, clocksOf, talliesOf}
 -- "Entry G[i] means events 1 to G[i] of tablet i": the cut G contains event e. The events of a trace are those that its
 -- tallies contain.
 pub record Contains (G : List ℕ) (e : EventName) : Type 0 where
-  pub tablet : e .tablet < 8
+  pub column : e .column < 8
   pub first : 1 ≤ e .number
-  pub last : e .number ≤ at G (e .tablet)
+  pub last : e .number ≤ at G (e .column)
 
 -- "for each i with G[i] > 0, the clock of event G[i] of tablet i is at most G in each entry"
 unfoldable pub closed : Clocks → List ℕ → Bool
@@ -34,9 +35,16 @@ abbrev pub box : List ℕ → List (List ℕ)
 box [] = [] ∷ []
 box (b ∷ bs) = rows b (box bs)
 
--- the consistent cuts G with low <= G <= high in each entry, in order
-unfoldable pub range : Clocks → List ℕ → List ℕ → List (List ℕ)
-range clk low high = keep (λ G. covered low G && consistent clk high G) (box high)
+-- a vector within a bound: as long, and at most it in each entry
+pub record Within (bound G : List ℕ) : Type 0 where
+  pub long : length G ≡ length bound
+  pub most : (j : ℕ) → j < length bound → at G j ≤ at bound j
+
+-- the consistent cuts G with low <= G <= high in each entry, lexically rising. `consistent clk high G` says both that G is
+-- at most high and that it is closed; to test against high where document 01 tests against the final tallies comes to the
+-- same (theorem 5).
+unfoldable pub cutsBetween : Clocks → List ℕ → List ℕ → List (List ℕ)
+cutsBetween clk low high = keep (λ G. covered low G && consistent clk high G) (box high)
 
 -- "Gmin is the clock of the event at p, Gbnd the tallies after position p"; for interval 0 both are the empty cut
 abbrev pub gmin : Store → ℕ → List ℕ
@@ -47,9 +55,9 @@ abbrev pub gbnd : Store → ℕ → List ℕ
 gbnd s p = tallies (s .order) p
 
 -- "Interval p, for p in 1 to T, is the consistent cuts G with Gmin <= G <= Gbnd in each entry"; "interval 0 holds the
--- empty cut and nothing else"
+-- empty cut and nothing else". For p above T a call is refused 9, and this is not read.
 unfoldable pub interval : Store → ℕ → List (List ℕ)
-interval s p = range (clocksOf s) (gmin s p) (gbnd s p)
+interval s p = cutsBetween (clocksOf s) (gmin s p) (gbnd s p)
 
 -- every consistent cut of the trace, found by testing every vector up to the tallies
 unfoldable pub allCuts : Store → List (List ℕ)

@@ -5,13 +5,14 @@ use mathlib.Core.List.{List}
 use lib.Dec.{leb, ltb, eqb}
 use lib.ListN.{getD}
 use Rattle.model.specs.Lists.{at, eight, allBelow}
+use Rattle.model.specs.Refusals.{orElse}
 use Rattle.model.specs.Clocks.{Clocks, EventName, clockOf, covered, known}
 
--- "the byte for position p, at index p-1, is the tablet number": that tablet's index, for position q + 1
-abbrev pub indexAt : List ℕ → ℕ → ℕ
-indexAt order q = getD order q 0 - 1
+-- "the byte for position p, at index p-1, is the tablet number": that tablet's column, for position q + 1
+abbrev pub columnAt : List ℕ → ℕ → ℕ
+columnAt order q = getD order q 0 - 1
 
--- "the tallies (accepted events per tablet)": how many of the first p order bytes name the tablet of index j
+-- "the tallies (accepted events per tablet)": how many of the first p order bytes name the tablet of column j
 abbrev pub tally : List ℕ → ℕ → ℕ → ℕ
 tally order zero j = 0
 tally order (suc p) j = cond (eqb (getD order p 0) (suc j)) (suc (tally order p j)) (tally order p j)
@@ -21,37 +22,44 @@ tallies order p = eight (tally order p)
 
 -- the event accepted at position q + 1: its number on its tablet is one more than the tally before it
 abbrev pub eventAt : List ℕ → ℕ → EventName
-eventAt order q = record { tablet = indexAt order q; number = tally order q (indexAt order q) + 1 }
+eventAt order q = record { column = columnAt order q; number = tally order q (columnAt order q) + 1 }
+
+-- "i is in 1 to n and its tally is below 254": 0 where it holds, else 4 or 8
+unfoldable pub tabletRefusal : ℕ → List ℕ → ℕ → ℕ
+tabletRefusal n tal i = cond (eqb i 0) 4 (cond (ltb n i) 4 (cond (leb 254 (at tal (i - 1))) 8 0))
 
 -- "for each other j, V[j] is at most j's tally, and 0 above n"
-unfoldable pub othersWithin : ℕ → List ℕ → ℕ → List ℕ → Bool
-othersWithin n tal own clock =
-    allBelow 8
-    (λ j. cond (eqb j own) true (cond (ltb j n) (leb (at clock j) (at tal j)) (eqb (at clock j) 0)))
+abbrev pub entryFits : ℕ → ℕ → ℕ → ℕ → ℕ → Bool
+entryFits n own j tally entry = cond (eqb j own) true (cond (ltb j n) (leb entry tally) (eqb entry 0))
 
--- "the clock of tablet i's previous event, if any, is at most V in each entry; for each other j with V[j] > 0, the clock
--- of event V[j] of tablet j is at most V in each entry"
-abbrev pub lastKnown : List ℕ → ℕ → List ℕ → ℕ → ℕ
-lastKnown tal own clock j = cond (eqb j own) (at tal j) (at clock j)
+unfoldable pub othersWithin : ℕ → List ℕ → ℕ → List ℕ → Bool
+othersWithin n tal own clock = allBelow 8 (λ j. entryFits n own j (at tal j) (at clock j))
+
+-- "the clock of tablet i's previous event, if any, is at most V in each entry"; "for each other j with V[j] > 0, the clock
+-- of event V[j] of tablet j is at most V in each entry": the number of the event of tablet j that must be covered
+abbrev pub lastKnown : ℕ → ℕ → ℕ → ℕ → ℕ
+lastKnown own j tally entry = cond (eqb j own) tally entry
 
 unfoldable pub covers : Clocks → List ℕ → ℕ → List ℕ → Bool
-covers clk tal own clock = allBelow 8 (λ j. covered (known clk j (lastKnown tal own clock j)) clock)
+covers clk tal own clock = allBelow 8 (λ j. covered (known clk j (lastKnown own j (at tal j) (at clock j))) clock)
 
--- "An event of tablet i with clock V may follow when, with the tallies before it: ..": 0 where it may, else the first
+-- "V[i] is its tally plus 1", and the rules above: 0 where they hold, else 5, 6 or 7
+unfoldable pub clockRefusal : ℕ → Clocks → List ℕ → ℕ → List ℕ → ℕ
+clockRefusal n clk tal own clock =
+    cond (not (eqb (at clock own) (at tal own + 1))) 5
+    (cond (not (othersWithin n tal own clock)) 6 (cond (not (covers clk tal own clock)) 7 0))
+
+-- "An event of tablet i with clock V may follow when, with the tallies .. before it: ..": 0 where it may, else the first
 -- refusal that applies, "for an event 4, 8, 5, 6, 7"
-unfoldable pub mayFollow : ℕ → Clocks → List ℕ → ℕ → List ℕ → ℕ
-mayFollow n clk tal i clock =
-    cond (eqb i 0) 4
-    (cond (ltb n i) 4
-    (cond (leb 254 (at tal (i - 1))) 8
-    (cond (not (eqb (at clock (i - 1)) (at tal (i - 1) + 1))) 5
-    (cond (not (othersWithin n tal (i - 1) clock)) 6
-    (cond (not (covers clk tal (i - 1) clock)) 7
-    0)))))
+unfoldable pub followRefusal : ℕ → Clocks → List ℕ → ℕ → List ℕ → ℕ
+followRefusal n clk tal i clock = orElse (tabletRefusal n tal i) (clockRefusal n clk tal (i - 1) clock)
+
+abbrev pub mayFollow : ℕ → Clocks → List ℕ → ℕ → List ℕ → Bool
+mayFollow n clk tal i clock = eqb (followRefusal n clk tal i clock) 0
 
 -- "its events, taken in order from none, each may follow", for the first p of them
 abbrev pub followTo : ℕ → Clocks → List ℕ → ℕ → Bool
 followTo n clk order zero = true
 followTo n clk order (suc p) =
     followTo n clk order p
-    && eqb (mayFollow n clk (tallies order p) (getD order p 0) (clockOf clk (eventAt order p))) 0
+    && mayFollow n clk (tallies order p) (getD order p 0) (clockOf clk (eventAt order p))

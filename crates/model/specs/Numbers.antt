@@ -6,16 +6,16 @@ use Rattle.model.specs.declared.Tablet.{Tablet}
 use Rattle.model.specs.declared.EventNumber.{EventNumber}
 
 -- "Tablets n: 1 to 8."
-abbrev pub widthFits : ℕ → Bool
-widthFits n = leb 1 n && leb n 8
+abbrev pub tabletsFit : ℕ → Bool
+tabletsFit n = leb 1 n && leb n 8
 
--- "Event k of tablet i has slot s = (i-1)*254 + (k-1)", with the index j for i - 1
+-- "Event k of tablet i has slot s = (i-1)*254 + (k-1)", with the column j for i - 1
 unfoldable pub slot : ℕ → ℕ → ℕ
 slot j k = j * 254 + (k - 1)
 
 -- the same of the numbers that the calls pass
-abbrev pub index : Tablet → ℕ
-index i = i .0 - 1
+abbrev pub column : Tablet → ℕ
+column i = i .0 - 1
 
 abbrev pub slotOf : Tablet → EventNumber → ℕ
-slotOf i k = slot (index i) (k .0)
+slotOf i k = slot (column i) (k .0)

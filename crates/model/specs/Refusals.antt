@@ -1,11 +1,15 @@
--- Document 01, "Refusal numbers".
+-- Document 01, "Refusal numbers". Where a rule gives a number, 0 stands for no refusal.
 use Prim.Native.Nat.{ℕ}
+use mathlib.Core.Bool.{cond}
+use lib.Dec.{eqb}
 use Rattle.model.specs.declared.Refusal.{Refusal}
-use Rattle.model.specs.declared.Refusal.the-variants.{NoSuchWidth, ShortBuffer, InvalidStore, NoSuchTablet, OwnEntryNotNext, EntryTooHigh, NotCovered, TabletFull, NoSuchPosition, PlaceOutside, CountTooLarge, FaultyLine, BadSet, ShortOutput, InputTooLong}
+use Rattle.model.specs.declared.Verdict.{Verdict}
+use Rattle.model.specs.declared.Verdict.the-variants.{Passed, Refused}
+use Rattle.model.specs.declared.Refusal.the-variants.{NoSuchTabletCount, ShortBuffer, InvalidStore, NoSuchTablet, OwnEntryNotNext, EntryTooHigh, NotCovered, TabletFull, NoSuchPosition, PlaceOutside, CountTooLarge, FaultyLine, BadSet, ShortOutput, InputTooLong}
 
 abbrev pub numberOf : Refusal → ℕ
 -- n is 0 or above 8
-numberOf NoSuchWidth = 1
+numberOf NoSuchTabletCount = 1
 -- a store buffer is too short
 numberOf ShortBuffer = 2
 -- the store is not valid
@@ -34,3 +38,11 @@ numberOf BadSet = 13
 numberOf ShortOutput = 14
 -- `cutcheck` input above 65,536 bytes
 numberOf InputTooLong = 15
+
+abbrev pub verdictNumber : Verdict → ℕ
+verdictNumber Passed = 0
+verdictNumber (Refused why) = numberOf why
+
+-- "The first that applies is given"
+abbrev pub orElse : ℕ → ℕ → ℕ
+orElse refusal next = cond (eqb refusal 0) next refusal

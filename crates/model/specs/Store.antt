@@ -1,4 +1,4 @@
--- Document 01, "The store": a record with its three lent buffers, opening, accepting, and when a store is valid.
+-- Document 01, "The store": a record with its three lent buffers, accepting, and when a store is valid.
 use Prim.Native.Nat.{ℕ, _+_, _*_}
 use mathlib.Core.Bool.{Bool, not, cond, _&&_}
 use mathlib.Core.List.{List}
@@ -7,9 +7,9 @@ use lib.ListN.{length, getD, set}
 use lib.Seq.{sets}
 use Rattle.model.specs.declared.Record.{Record}
 use Rattle.model.specs.declared.Event.{Event}
-use Rattle.model.specs.Numbers.{widthFits, slot, index}
+use Rattle.model.specs.Numbers.{tabletsFit, slot, column}
 use Rattle.model.specs.Clocks.{Clocks, EventName, clockAt}
-use Rattle.model.specs.Follow.{tally, tallies, mayFollow, followTo}
+use Rattle.model.specs.Follow.{tally, tallies, followRefusal, followTo}
 
 -- "A record (n, T) goes with three lent buffers"
 pub record Store : Type 0 where
@@ -28,7 +28,7 @@ clocksOf s = clockAt (s .clocks)
 
 -- "held: 2,032 numbers of 16 bits, one a slot"
 abbrev pub heldOf : Store → EventName → ℕ
-heldOf s e = getD (s .held) (slot (e .tablet) (e .number)) 0
+heldOf s e = getD (s .held) (slot (e .column) (e .number)) 0
 
 -- the tallies now
 abbrev pub talliesOf : Store → List ℕ
@@ -44,12 +44,12 @@ valid s = leb (s .events) 2032 && followTo (s .tablets) (clocksOf s) (s .order) 
 
 -- "Each call that takes a store tests this, after refusals 1 and 2 and before all else": 0 where it passes
 unfoldable pub storeRefusal : Store → ℕ
-storeRefusal s = cond (not (widthFits (s .tablets))) 1 (cond (not (fullSize s)) 2 (cond (not (valid s)) 3 0))
+storeRefusal s = cond (not (tabletsFit (s .tablets))) 1 (cond (not (fullSize s)) 2 (cond (not (valid s)) 3 0))
 
 -- "Accepting an event writes its slot's clock and held value and the next order byte, and gives T+1; every other place is
 -- untouched."
 abbrev pub nextSlot : Store → Event → ℕ
-nextSlot s e = slot (index (e .tablet)) (tally (s .order) (s .events) (index (e .tablet)) + 1)
+nextSlot s e = slot (column (e .tablet)) (tally (s .order) (s .events) (column (e .tablet)) + 1)
 
 unfoldable pub accepted : Store → Event → Store
 accepted s e =
@@ -61,6 +61,6 @@ accepted s e =
       order = set (s .order) (s .events) (e .tablet .0);
     }
 
--- the refusal of an event offered to a store, or 0
+-- the refusal of an event offered to a store that passes `storeRefusal`; 0 where it may follow
 unfoldable pub eventRefusal : Store → Event → ℕ
-eventRefusal s e = mayFollow (s .tablets) (clocksOf s) (talliesOf s) (e .tablet .0) (e .clock)
+eventRefusal s e = followRefusal (s .tablets) (clocksOf s) (talliesOf s) (e .tablet .0) (e .clock)

@@ -6,7 +6,7 @@ pub struct Tablet(pub u8);
 // An event's number on its tablet, from 1.
 pub struct EventNumber(pub u8);
 
-// A position in the trace, from 1 in order of acceptance; 0 is the position before the first event.
+// A position in the trace, from 1 in order of acceptance. Where an interval is meant, 0 is the interval of the empty cut.
 pub struct Position(pub u16);
 
 // A cut: for each of eight tablets, how many of its events have happened. Entries above the number of tablets are zero.
@@ -46,6 +46,7 @@ pub enum Range {
     Whole,
 }
 
+// A question together with the interval or the whole trace that it is put to.
 pub struct Job {
     pub question: Question,
     pub range: Range,
@@ -53,7 +54,7 @@ pub struct Job {
 
 // The refusals, in the order of their numbers, 1 to 15.
 pub enum Refusal {
-    NoSuchWidth,
+    NoSuchTabletCount,
     ShortBuffer,
     InvalidStore,
     NoSuchTablet,
@@ -68,4 +69,10 @@ pub enum Refusal {
     BadSet,
     ShortOutput,
     InputTooLong,
+}
+
+// What a call that only tests has found.
+pub enum Verdict {
+    Passed,
+    Refused(Refusal),
 }
