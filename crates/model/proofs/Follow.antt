@@ -12,6 +12,7 @@ use Rattle.model.specs.Lists.{at}
 use Rattle.model.specs.Clocks.{Clocks, covered, known}
 use Rattle.model.specs.Refusals.{orElse}
 use Rattle.model.specs.Follow.{tabletRefusal, entryFits, othersWithin, lastKnown, covers, clockRefusal, followRefusal}
+use Rattle.model.proofs.Refusals.{or-else-next}
 use Rattle.model.proofs.Tests.{holds, from-true, allBelow-at, allBelow-all}
 use Rattle.model.proofs.Entries.{AtMost, covered-at-most, at-most-covered}
 
@@ -26,7 +27,7 @@ pub record Follows (n : ℕ) (clk : Clocks) (tal : List ℕ) (i : ℕ) (clock : 
   pub covering : (j : ℕ) → j < 8 → AtMost (known clk j (lastKnown (i - 1) j (at tal j) (at clock j))) clock
 
 -- one link of the chain of refusals
-passes : (b : Bool) (x r : ℕ) → 1 ≤ x → cond b x r ≡ 0 → (b ≡ false) × (r ≡ 0)
+pub passes : (b : Bool) (x r : ℕ) → 1 ≤ x → cond b x r ≡ 0 → (b ≡ false) × (r ≡ 0)
 passes true x r h e = let z : ⊥ = omega arith in absurd z
 passes false x r h e = (refl, e)
 
@@ -80,16 +81,13 @@ or-else-none zero b e = (refl, e)
 or-else-none (suc a) b e =
     let z : ⊥ = omega (arith, simp (eqb·suc-zero a) at e) in absurd z
 
-pub or-else-next : (a b : ℕ) → a ≡ 0 → orElse a b ≡ b
-or-else-next a b e = simp (eq-eqb a 0 e)
-
 pub tablet-passes : (n : ℕ) (tal : List ℕ) (i : ℕ) → 1 ≤ i → i ≤ n → at tal (i - 1) < 254 → tabletRefusal n tal i ≡ 0
 unfolding tabletRefusal
 tablet-passes n tal i positive low room =
     let nonzero : i ≢ 0 = omega arith in
     simp (ne-eqb i 0 nonzero, le-ltb n i low, lt-leb 254 (at tal (i - 1)) room)
 
-tablet-holds : (n : ℕ) (tal : List ℕ) (i : ℕ) → tabletRefusal n tal i ≡ 0 → (1 ≤ i) × (i ≤ n) × (at tal (i - 1) < 254)
+pub tablet-holds : (n : ℕ) (tal : List ℕ) (i : ℕ) → tabletRefusal n tal i ≡ 0 → (1 ≤ i) × (i ≤ n) × (at tal (i - 1) < 254)
 unfolding tabletRefusal
 tablet-holds n tal i e =
     let p1 = passes (eqb i 0) 4 _ (omega arith) e in
@@ -128,3 +126,10 @@ follows-passes n clk tal i clock f =
       holds (othersWithin n tal own clock) (hold-others n tal own clock (λ j h. fits-entry n tal own clock j (f .others j h) (f .above j h))),
       holds (covers clk tal own clock) (holds-covers clk tal own clock (f .covering)),
     )
+
+-- where the other entries fit, each event that must be covered is one of the accepted
+pub last-known-bounded : (n : ℕ) (tal : List ℕ) (own : ℕ) (clock : List ℕ) → T (othersWithin n tal own clock) → ((j : ℕ) → j < 8 → at tal j ≤ 254) → (j : ℕ) → j < 8 → lastKnown own j (at tal j) (at clock j) ≤ 254
+last-known-bounded n tal own clock t bounded j h =
+    by-cases (ℕ-discrete j own)
+    (λ e. simp (eq-eqb j own e) (bounded j h))
+    (λ other. simp (ne-eqb j own other) (omega (arith, bounded j h, below n tal own clock j other (others-hold n tal own clock t j h))))

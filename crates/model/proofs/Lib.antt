@@ -5,6 +5,7 @@ pub mod Lexical
 pub mod Box
 pub mod Ranges
 pub mod Causal
+pub mod Refusals
 pub mod Follow
 pub mod Valid
 pub mod Happened

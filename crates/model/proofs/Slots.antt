@@ -2,7 +2,7 @@
 use mathlib.Core.Path.{_≡_, refl, sym, ap, _∙_}
 use mathlib.Core.Logic.{_≢_, _⊎_, inl, inr, ⊎-elim, by-cases}
 use mathlib.Core.List.{List, [], _∷_, _++_, append-assoc}
-use Prim.Native.Nat.{ℕ, suc, _+_, _*_, _≤_, _<_}
+use Prim.Native.Nat.{ℕ, suc, _+_, _-_, _*_, _≤_, _<_}
 use native.Mathlib.Omega.{arith}
 use native.Mathlib.Decide.{decLt}
 use lib.ListN.{length, take, drop, set, length-take, length-drop}
@@ -76,7 +76,16 @@ pub at-clock : (bytes : List ℕ) (s j : ℕ) → j < 8 → at (clockIn bytes s)
 unfolding clockIn
 at-clock bytes s j h = getD-take 8 (drop (8 * s) bytes) j 0 h ∙ getD-drop (8 * s) bytes j 0
 
-pub clock-long : (bytes : List ℕ) (e : EventName) → 16256 ≤ length bytes → Storable e → length (clockAt bytes (e .column) (e .number)) ≡ 8
+-- a whole clock has eight entries; the part of the bytes from 8s to 8s + 8 is it
+pub clock-in-long : (bytes : List ℕ) (s : ℕ) → 8 * s + 8 ≤ length bytes → length (clockIn bytes s) ≡ 8
 unfolding clockIn
-clock-long bytes e full he =
-    simp (length-take, length-drop) (omega (arith, slot-below e he))
+clock-in-long bytes s fits = simp (length-take, length-drop) (omega arith)
+
+pub part-clock : (bytes : List ℕ) (s : ℕ) → take (8 * s + 8 - 8 * s) (drop (8 * s) bytes) ≡ clockIn bytes s
+unfolding clockIn
+part-clock bytes s =
+    let eight-bytes : 8 * s + 8 - 8 * s ≡ 8 = omega arith in
+    ap (λ (m : ℕ). take m (drop (8 * s) bytes)) eight-bytes
+
+pub clock-long : (bytes : List ℕ) (e : EventName) → 16256 ≤ length bytes → Storable e → length (clockAt bytes (e .column) (e .number)) ≡ 8
+clock-long bytes e full he = clock-in-long bytes (slot (e .column) (e .number)) (omega (arith, slot-below e he))

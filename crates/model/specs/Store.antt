@@ -35,8 +35,11 @@ abbrev pub talliesOf : Store → List ℕ
 talliesOf s = tallies (s .order) (s .events)
 
 -- "always of full size; a longer tail is neither read nor touched": the bytes of clocks, the numbers of held, the bytes of order
+abbrev pub fullSizes : List ℕ → List ℕ → List ℕ → Bool
+fullSizes clocks held order = leb 16256 (length clocks) && leb 2032 (length held) && leb 2032 (length order)
+
 unfoldable pub fullSize : Store → Bool
-fullSize s = leb 16256 (length (s .clocks)) && leb 2032 (length (s .held)) && leb 2032 (length (s .order))
+fullSize s = fullSizes (s .clocks) (s .held) (s .order)
 
 -- "A store is valid when T is at most 2,032 and its events, taken in order from none, each may follow."
 unfoldable pub valid : Store → Bool

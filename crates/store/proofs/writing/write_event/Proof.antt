@@ -1,0 +1,100 @@
+-- `write_event`: a sound store and an event that may follow leave room for each write; the three writes are the accepted store.
+use Prim.Native.Nat.{_<_}
+use native.Mathlib.Omega.{arith}
+use Rattle.model.specs.Store.{Store, storeOf}
+use Rattle.model.proofs.Sound.{Full}
+use Rattle.store.proofs.Ready.{tested-full, tablet-positive, own-fits, count-room, slot-room, event-room, written}
+use borrow.Author.Needs.{needs}
+use Rattle.store.proofs.writing.write_event.Statement.{statement}
+use Rattle.store.proofs.writing.write_event.Tie as tie
+
+abbrev st : tie.Start → Store
+st c = storeOf (c .args .«record») (c .args .clocks .now) (c .args .held .now) (c .args .order .now)
+
+full : (c : tie.Start) → Full (st c)
+full c = tested-full (st c) (c .pre .ready .refusal)
+
+home-below : (c : tie.After-slot-of) → c .slot-of .result < 2032
+home-below c = omega (arith, c .slot-of .ensures, slot-room (st (c .before .before .before .before .before)) (c .before .before .before .before .before .args .t5) (c .before .before .before .before .before .args .event) (c .before .before .before .before .before .pre))
+
+sub-own : tie.Need-sub-own
+sub-own c = tablet-positive (st (c .before .before .before .before)) (c .before .before .before .before .args .t5) (c .before .before .before .before .args .event) (c .before .before .before .before .pre)
+
+cast-own : tie.Need-cast-own
+cast-own c = search needs
+
+array-read-count : tie.Need-array-read-count
+array-read-count c = own-fits (st (c .before .before .before .before)) (c .before .before .before .before .args .t5) (c .before .before .before .before .args .event) (c .before .before .before .before .pre)
+
+cast-slot-of : tie.Need-cast-slot-of
+cast-slot-of c = search needs
+
+add-slot-of : tie.Need-add-slot-of
+add-slot-of c = omega (arith, count-room (st (c .before .before .before .before)) (c .before .before .before .before .args .t5) (c .before .before .before .before .args .event) (c .before .before .before .before .pre))
+
+slot-of-requires : tie.Need-slot-of-requires
+slot-of-requires c κs = (own-fits (st (c .before .before .before .before)) (c .before .before .before .before .args .t5) (c .before .before .before .before .args .event) (c .before .before .before .before .pre), omega arith, omega (arith, count-room (st (c .before .before .before .before)) (c .before .before .before .before .args .t5) (c .before .before .before .before .args .event) (c .before .before .before .before .pre)))
+
+mul-write-clock : tie.Need-mul-write-clock
+mul-write-clock c = omega (arith, home-below (c .before .before))
+
+write-clock-requires : tie.Need-write-clock-requires
+write-clock-requires c κs = omega (arith, home-below (c .before .before), full (c .before .before .before .before .before .before .before) .clocks)
+
+mul-held : tie.Need-mul-held
+mul-held c = omega (arith, home-below (c .before .before .before .before .before))
+
+slice-write-held : tie.Need-slice-write-held
+slice-write-held c = omega (arith, home-below (c .before .before .before .before .before), full (c .before .before .before .before .before .before .before .before .before .before) .held)
+
+cast-next : tie.Need-cast-next
+cast-next c = search needs
+
+slice-write-order : tie.Need-slice-write-order
+slice-write-order c = omega (arith, event-room (st (c .before .before .before .before .before .before .before .before .before .before .before)) (c .before .before .before .before .before .before .before .before .before .before .before .args .t5) (c .before .before .before .before .before .before .before .before .before .before .before .args .event) (c .before .before .before .before .before .before .before .before .before .before .before .pre), full (c .before .before .before .before .before .before .before .before .before .before .before) .order)
+
+add-counts : tie.Need-add-counts
+add-counts c = omega (arith, count-room (st (c .before .before .before .before .before .before .before .before .before .before .before)) (c .before .before .before .before .before .before .before .before .before .before .before .args .t5) (c .before .before .before .before .before .before .before .before .before .before .before .args .event) (c .before .before .before .before .before .before .before .before .before .before .before .pre))
+
+array-write-counts : tie.Need-array-write-counts
+array-write-counts c = own-fits (st (c .before .before .before .before .before .before .before .before .before .before .before)) (c .before .before .before .before .before .before .before .before .before .before .before .args .t5) (c .before .before .before .before .before .before .before .before .before .before .before .args .event) (c .before .before .before .before .before .before .before .before .before .before .before .pre)
+
+add-t30 : tie.Need-add-t30
+add-t30 c = omega (arith, event-room (st (c .before .before .before .before .before .before .before .before .before .before .before .before)) (c .before .before .before .before .before .before .before .before .before .before .before .before .args .t5) (c .before .before .before .before .before .before .before .before .before .before .before .before .args .event) (c .before .before .before .before .before .before .before .before .before .before .before .before .pre))
+
+same-length : tie.Need-same-length
+same-length c = search needs
+
+same-length-2 : tie.Need-same-length-2
+same-length-2 c = search needs
+
+same-length-3 : tie.Need-same-length-3
+same-length-3 c = search needs
+
+returns : tie.Need-returns
+returns c =
+    written (st (c .before .before .before .before .before .before .before .before .before .before .before .before)) (c .before .before .before .before .before .before .before .before .before .before .before .before .args .t5) (c .before .before .before .before .before .before .before .before .before .before .before .before .args .event) (c .before .before .before .before .before .before .before .before .before .before .before .before .pre) (c .before .before .before .before .before .before .before .slot-of .result) (c .before .before .before .before .write-clock .last .0) (c .before .before .before .before .before .before .before .slot-of .ensures) (c .before .before .before .before .write-clock .ensures)
+
+pub write-event-spec : {M : Type 1} → statement M
+write-event-spec =
+    tie.close
+    (tie.spec
+    sub-own
+    cast-own
+    array-read-count
+    cast-slot-of
+    add-slot-of
+    slot-of-requires
+    mul-write-clock
+    write-clock-requires
+    mul-held
+    slice-write-held
+    cast-next
+    slice-write-order
+    add-counts
+    array-write-counts
+    add-t30
+    same-length
+    same-length-2
+    same-length-3
+    returns)

@@ -1,0 +1,85 @@
+// The store of a trace over the caller's three buffers: opening, accepting events, checking.
+// Each public call tests all that it is given and refuses by document 01's number; what it answers and leaves in every
+// buffer is fixed by its contract for all inputs.
+mod clocks;
+mod follow;
+pub mod inner;
+mod testing;
+mod writing;
+
+use inner::append;
+use model::Event;
+use model::Record;
+use model::Refusal;
+use model::Verdict;
+use testing::test_store;
+ghost use mathlib.Core.Path.{_≡_};
+ghost use Rattle.model.specs.Refusals.{verdictNumber};
+ghost use Rattle.model.specs.Store.{storeOf, storeRefusal};
+ghost use Rattle.store.specs.Outcomes.{opening, opened, accepting, taken};
+
+// What opening and accepting answer: whether it was taken, and the record that goes on.
+pub struct Taken {
+    pub verdict: Verdict,
+    pub record: Record,
+}
+
+// A fresh record for a number of tablets. No buffer is touched.
+pub fn open(tablets: u8) -> Taken
+    ensures { λ r. ⌜ opened r ≡ opening tablets ⌝ }
+{
+    if tablets == 0 {
+        return refused_width();
+    }
+    if 8 < tablets {
+        return refused_width();
+    }
+    Taken {
+        verdict: Verdict::Passed,
+        record: Record { tablets, events: 0 },
+    }
+}
+
+fn refused_width() -> Taken
+    ensures { λ r. ⌜ opened r ≡ opening 0 ⌝ }
+{
+    Taken {
+        verdict: Verdict::Refused(Refusal::NoSuchTabletCount),
+        record: Record {
+            tablets: 0,
+            events: 0,
+        },
+    }
+}
+
+// Whether a stored trace is sound: passed, or refused 1, 2 or 3.
+pub fn check(record: Record, clocks: &[u8], held: &[u16], order: &[u8]) -> Verdict
+    ensures { λ r. ⌜ verdictNumber r ≡ storeRefusal (storeOf «record» (now (clocks .entry)) (now (held .entry)) (now (order .entry))) ⌝ }
+{
+    let tested = test_store(record, clocks, held, order);
+    tested.verdict
+}
+
+// Takes the next event, or refuses it and leaves all as it was.
+pub fn accept(
+    record: Record,
+    clocks: &mut [u8],
+    held: &mut [u16],
+    order: &mut [u8],
+    event: Event,
+) -> Taken
+    ensures { λ r. ⌜ taken r (now (clocks .exit)) (now (held .exit)) (now (order .exit)) ≡ accepting (storeOf «record» (now (clocks .entry)) (now (held .entry)) (now (order .entry))) event ⌝ }
+{
+    let tested = test_store(record, clocks, held, order);
+    let v = tested.verdict;
+    match v {
+        Verdict::Refused(_) => Taken { verdict: v, record },
+        Verdict::Passed => {
+            let counts = tested.counts;
+            let done = append(record, clocks, held, order, counts, event);
+            let verdict = done.verdict;
+            let record = done.record;
+            Taken { verdict, record }
+        }
+    }
+}

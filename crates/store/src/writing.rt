@@ -1,0 +1,56 @@
+// The writes of an accepted event: its slot's clock and held value, and the next order byte.
+use crate::clocks::slot_of;
+use crate::inner::Appended;
+use model::Event;
+use model::Record;
+use model::Verdict;
+ghost use mathlib.Core.Path.{_≡_};
+ghost use Prim.Native.Nat.{_+_, _≤_};
+ghost use lib.ListN.{length};
+ghost use lib.Seq.{sets};
+ghost use Rattle.model.specs.Store.{storeOf};
+ghost use Rattle.store.specs.Outcomes.{WriteReady, appended, Stored};
+
+fn write_clock(clocks: &mut [u8], from: usize, clock: [u8; 8])
+    requires { ⌜ from + 8 ≤ length (now clocks) ⌝ }
+    ensures { λ r. ⌜ now (clocks .exit) ≡ sets (now (clocks .entry)) from clock ⌝ }
+{
+    let mut j: usize = 0;
+    while j < 8 {
+        clocks[from + j] = clock[j];
+        j += 1;
+    }
+}
+
+pub(crate) fn write_event(
+    record: Record,
+    clocks: &mut [u8],
+    held: &mut [u16],
+    order: &mut [u8],
+    tallies: [u8; 8],
+    event: Event,
+) -> Appended
+    requires { ⌜ WriteReady (storeOf «record» (now clocks) (now held) (now order)) tallies event ⌝ }
+    ensures { λ r. ⌜ Stored (storeOf «record» (now (clocks .entry)) (now (held .entry)) (now (order .entry))) event (appended r (now (clocks .exit)) (now (held .exit)) (now (order .exit))) (r .tallies) ⌝ }
+{
+    let t = event.tablet;
+    let tablet = t.0;
+    let own = (tablet - 1) as usize;
+    let count = tallies[own];
+    let at = slot_of(own, count as usize + 1);
+    let clock = event.clock;
+    write_clock(clocks, 8 * at, clock);
+    held[at] = event.held;
+    let next = record.events as usize;
+    order[next] = tablet;
+    let mut counts = tallies;
+    counts[own] = count + 1;
+    Appended {
+        verdict: Verdict::Passed,
+        record: Record {
+            tablets: record.tablets,
+            events: record.events + 1,
+        },
+        tallies: counts,
+    }
+}
