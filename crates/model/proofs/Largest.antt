@@ -1,7 +1,7 @@
 -- The largest of finitely many numbers: above each, at most every bound of all, and attained.
-use mathlib.Core.Path.{_≡_, refl}
+use mathlib.Core.Path.{_≡_, refl, ap₂}
 use mathlib.Core.Logic.{_⊎_, inl, inr, ⊎-elim, by-cases}
-use Prim.Native.Nat.{ℕ, zero, suc, _≤_, _<_}
+use Prim.Native.Nat.{ℕ, zero, suc, _≤_, _<_, max}
 use native.Mathlib.Omega.{arith}
 use native.Mathlib.Decide.{ℕ-discrete, decLe}
 use native.Mathlib.Nat.{not-suc-le-zero}
@@ -22,3 +22,8 @@ max-attained (suc n) f =
     by-cases (decLe (maxBelow n f) (f n))
     (λ h. inr (n, omega arith, omega arith))
     (λ h. ⊎-elim (λ e. let z : ⊥ = omega arith in absurd z) (λ r. inr (r .0, omega (arith, r .1), omega (arith, r .2))) (max-attained n f))
+
+pub maxBelow-same : (n : ℕ) (f g : ℕ → ℕ) → ((i : ℕ) → i < n → f i ≡ g i) → maxBelow n f ≡ maxBelow n g
+maxBelow-same zero f g same = refl
+maxBelow-same (suc n) f g same =
+    ap₂ max (maxBelow-same n f g (λ i h. same i (omega arith))) (same n (omega arith))

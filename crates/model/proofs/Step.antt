@@ -138,7 +138,7 @@ module _ (clk : Clocks) (low high : List ℕ) (bounds : Bounds clk low high) (G 
         (λ r. known-at-most clk j (at next j) next (named-in-next (r .0) j (r .1) hj (entry ∙ r .2)))
         (least-is clk low G k j))
 
-    next-inside : InRange clk low high next
+    pub next-inside : InRange clk low high next
     next-inside =
         record { long = raised-long clk low G k; least = next-low; cut = record { most = next-high; known-in = next-closed } }
 

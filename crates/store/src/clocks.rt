@@ -1,17 +1,9 @@
-// Slots, and comparing clocks where they lie in the lent bytes.
+// Comparing clocks where they lie in the lent bytes.
+use crate::inner::slot_of;
 ghost use mathlib.Core.Path.{_≡_};
-ghost use Prim.Native.Nat.{_+_, _*_, _≤_, _<_};
+ghost use Prim.Native.Nat.{_+_, _*_, _≤_};
 ghost use lib.ListN.{length};
-ghost use Rattle.model.specs.Numbers.{slot};
-ghost use Rattle.model.specs.Clocks.{clockIn, clockAt, covered, known};
-
-// The slot of event k of the tablet at index j.
-pub(crate) fn slot_of(j: usize, k: usize) -> usize
-    requires { ⌜ (j < 8) × (1 ≤ k) × (k ≤ 254) ⌝ }
-    ensures { λ r. ⌜ r ≡ slot j k ⌝ }
-{
-    j * 254 + (k - 1)
-}
+ghost use Rattle.model.specs.Clocks.{clockIn, covered};
 
 // Whether the clock stored at a slot is at most another in each entry.
 pub(crate) fn covered_at(clocks: &[u8], slot: usize, clock: &[u8]) -> bool
@@ -27,16 +19,4 @@ pub(crate) fn covered_at(clocks: &[u8], slot: usize, clock: &[u8]) -> bool
         j += 1;
     }
     true
-}
-
-// The same of event k of the tablet at index j, where there is one; no event (k is 0) knows nothing.
-pub(crate) fn known_covered(clocks: &[u8], j: usize, k: u8, clock: &[u8]) -> bool
-    requires { ⌜ (j < 8) × (k ≤ 254) × (16256 ≤ length (now clocks)) × (8 ≤ length (now clock)) ⌝ }
-    ensures { λ r. ⌜ r ≡ covered (known (clockAt (now (clocks .entry))) j k) (now (clock .entry)) ⌝ }
-{
-    if k == 0 {
-        return true;
-    }
-    let at = slot_of(j, k as usize);
-    covered_at(clocks, at, clock)
 }

@@ -1,6 +1,6 @@
 // The rules of following, in document 01's order: 4 and 8 by the tablet, 5, 6 and 7 by the clock.
-use crate::clocks::known_covered;
-use crate::clocks::slot_of;
+use crate::inner::known_covered;
+use crate::inner::slot_of;
 use model::Refusal;
 use model::Verdict;
 ghost use mathlib.Core.Path.{_≡_};

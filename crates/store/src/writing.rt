@@ -1,26 +1,12 @@
 // The writes of an accepted event: its slot's clock and held value, and the next order byte.
-use crate::clocks::slot_of;
 use crate::inner::Appended;
+use crate::inner::slot_of;
+use crate::inner::write_eight;
 use model::Event;
 use model::Record;
 use model::Verdict;
-ghost use mathlib.Core.Path.{_≡_};
-ghost use Prim.Native.Nat.{_+_, _≤_};
-ghost use lib.ListN.{length};
-ghost use lib.Seq.{sets};
 ghost use Rattle.model.specs.Store.{storeOf};
 ghost use Rattle.store.specs.Outcomes.{WriteReady, appended, Stored};
-
-fn write_clock(clocks: &mut [u8], from: usize, clock: [u8; 8])
-    requires { ⌜ from + 8 ≤ length (now clocks) ⌝ }
-    ensures { λ r. ⌜ now (clocks .exit) ≡ sets (now (clocks .entry)) from clock ⌝ }
-{
-    let mut j: usize = 0;
-    while j < 8 {
-        clocks[from + j] = clock[j];
-        j += 1;
-    }
-}
 
 pub(crate) fn write_event(
     record: Record,
@@ -39,7 +25,7 @@ pub(crate) fn write_event(
     let count = tallies[own];
     let at = slot_of(own, count as usize + 1);
     let clock = event.clock;
-    write_clock(clocks, 8 * at, clock);
+    write_eight(clocks, 8 * at, clock);
     held[at] = event.held;
     let next = record.events as usize;
     order[next] = tablet;

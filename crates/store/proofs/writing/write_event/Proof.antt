@@ -35,11 +35,11 @@ add-slot-of c = omega (arith, count-room (st (c .before .before .before .before)
 slot-of-requires : tie.Need-slot-of-requires
 slot-of-requires c κs = (own-fits (st (c .before .before .before .before)) (c .before .before .before .before .args .t5) (c .before .before .before .before .args .event) (c .before .before .before .before .pre), omega arith, omega (arith, count-room (st (c .before .before .before .before)) (c .before .before .before .before .args .t5) (c .before .before .before .before .args .event) (c .before .before .before .before .pre)))
 
-mul-write-clock : tie.Need-mul-write-clock
-mul-write-clock c = omega (arith, home-below (c .before .before))
+mul-write-eight : tie.Need-mul-write-eight
+mul-write-eight c = omega (arith, home-below (c .before .before))
 
-write-clock-requires : tie.Need-write-clock-requires
-write-clock-requires c κs = omega (arith, home-below (c .before .before), full (c .before .before .before .before .before .before .before) .clocks)
+write-eight-requires : tie.Need-write-eight-requires
+write-eight-requires c κs = omega (arith, home-below (c .before .before), full (c .before .before .before .before .before .before .before) .clocks)
 
 mul-held : tie.Need-mul-held
 mul-held c = omega (arith, home-below (c .before .before .before .before .before))
@@ -73,7 +73,7 @@ same-length-3 c = search needs
 
 returns : tie.Need-returns
 returns c =
-    written (st (c .before .before .before .before .before .before .before .before .before .before .before .before)) (c .before .before .before .before .before .before .before .before .before .before .before .before .args .t5) (c .before .before .before .before .before .before .before .before .before .before .before .before .args .event) (c .before .before .before .before .before .before .before .before .before .before .before .before .pre) (c .before .before .before .before .before .before .before .slot-of .result) (c .before .before .before .before .write-clock .last .0) (c .before .before .before .before .before .before .before .slot-of .ensures) (c .before .before .before .before .write-clock .ensures)
+    written (st (c .before .before .before .before .before .before .before .before .before .before .before .before)) (c .before .before .before .before .before .before .before .before .before .before .before .before .args .t5) (c .before .before .before .before .before .before .before .before .before .before .before .before .args .event) (c .before .before .before .before .before .before .before .before .before .before .before .before .pre) (c .before .before .before .before .before .before .before .slot-of .result) (c .before .before .before .before .write-eight .last .0) (c .before .before .before .before .before .before .before .slot-of .ensures) (c .before .before .before .before .write-eight .ensures)
 
 pub write-event-spec : {M : Type 1} → statement M
 write-event-spec =
@@ -85,8 +85,8 @@ write-event-spec =
     cast-slot-of
     add-slot-of
     slot-of-requires
-    mul-write-clock
-    write-clock-requires
+    mul-write-eight
+    write-eight-requires
     mul-held
     slice-write-held
     cast-next

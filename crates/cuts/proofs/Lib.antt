@@ -1,0 +1,10 @@
+-- Laws of the model that the proofs of this crate's functions cite.
+pub mod Entries
+pub mod Raise
+pub mod Below
+pub mod Bounding
+pub mod Walks
+pub mod Counts
+pub mod Holdings
+pub mod Firsts
+pub mod Answers

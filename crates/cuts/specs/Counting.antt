@@ -1,0 +1,19 @@
+-- Document 01, "Counting": "The number of cuts of an interval, in 64 bits."
+use mathlib.Core.Path.{_≡_}
+use Prim.Native.Nat.{ℕ, _^_, _≤_}
+use mathlib.Core.Bool.{Bool, cond}
+use mathlib.Core.List.{List}
+use lib.Dec.{ltb, eqb}
+use lib.ListN.{length}
+use Rattle.model.specs.Refusals.{verdictNumber, orElse}
+use Rattle.model.specs.Store.{Store, storeRefusal}
+use Rattle.model.specs.Cuts.{interval}
+
+-- "11: the count does not fit 64 bits"
+abbrev pub fits64 : ℕ → Bool
+fits64 count = ltb count (2 ^ 64)
+
+-- the count of a list of cuts, where it fits; 0 where it does not
+pub record CountedTo (cuts : List (List ℕ)) (fits : Bool) (count : ℕ) : Type 0 where
+  pub fits-is : fits ≡ fits64 (length cuts)
+  pub count-is : count ≡ cond (fits64 (length cuts)) (length cuts) 0

@@ -1,0 +1,5 @@
+pub mod Walk
+pub mod Spans
+pub mod Counting
+pub mod Asking
+pub mod Outcomes

@@ -1,0 +1,88 @@
+-- What the public calls answer: for each call one definition of its whole outcome.
+use mathlib.Core.Path.{_≡_}
+use Prim.Native.Nat.{ℕ}
+use mathlib.Core.Bool.{Bool, true, false, cond, not}
+use mathlib.Core.List.{List}
+use lib.Dec.{leb, ltb, eqb}
+use lib.ListN.{length}
+use Rattle.model.specs.declared.Record.{Record}
+use Rattle.model.specs.declared.Question.{Question}
+use Rattle.model.specs.declared.Question.the-variants.{AtLeast, Exactly, All}
+use Rattle.model.specs.declared.Range.{Range}
+use Rattle.model.specs.declared.Range.the-variants.{Interval, Whole}
+use Rattle.model.specs.declared.Job.{Job}
+use Rattle.model.specs.Lists.{zeros}
+use Rattle.model.specs.Refusals.{numberOf, verdictNumber}
+use Rattle.model.specs.Store.{Store, storeOf, storeRefusal}
+use Rattle.model.specs.Cuts.{interval}
+use Rattle.model.specs.Questions.{setFits, answer}
+use Rattle.cuts.specs.declared.Counted.{Counted}
+use Rattle.cuts.specs.declared.Answer.{Answer}
+use Rattle.cuts.specs.declared.Answer.the-variants.{Found, NoCut, Refused}
+use Rattle.cuts.specs.declared.Asked.{Asked}
+use Rattle.cuts.specs.Counting.{fits64}
+
+-- a record with clocks and order that make a sound store with some held values, which the cuts do not depend on
+pub record SoundTrace (r : Record) (clocks order : List ℕ) : Type 0 where
+  pub held : List ℕ
+  pub none : storeRefusal (storeOf r clocks held order) ≡ 0
+
+-- Counting: the refusal's number, 0 for none, and the count
+pub record CountOutcome : Type 0 where
+  pub refusal : ℕ
+  pub count : ℕ
+
+abbrev pub counted : Counted → CountOutcome
+counted c = record { refusal = verdictNumber (c .verdict); count = c .count }
+
+-- of a sound store: "counting 9, 11"
+abbrev pub countIn : Store → ℕ → CountOutcome
+countIn s p =
+    cond (ltb (s .events) p) (record { refusal = 9; count = 0 })
+    (cond (fits64 (length (interval s p))) (record { refusal = 0; count = length (interval s p) })
+    (record { refusal = 11; count = 0 }))
+
+-- of any store: 1, 2 and 3 come first; "returned counts and cuts are 0"
+abbrev pub counting : Store → ℕ → CountOutcome
+counting s p = cond (eqb (storeRefusal s) 0) (countIn s p) (record { refusal = storeRefusal s; count = 0 })
+
+-- Asking: the refusal's number, 0 for none; whether a cut was found; and the cut. "no .. "none" is said" with a refusal.
+pub record AskOutcome : Type 0 where
+  pub refusal : ℕ
+  pub found : Bool
+  pub cut : List ℕ
+
+abbrev pub answerNumber : Answer → ℕ
+answerNumber Found = 0
+answerNumber NoCut = 0
+answerNumber (Refused why) = numberOf why
+
+abbrev pub answerFound : Answer → Bool
+answerFound Found = true
+answerFound NoCut = false
+answerFound (Refused why) = false
+
+abbrev pub asked : Asked → AskOutcome
+asked a = record { refusal = answerNumber (a .answer); found = answerFound (a .answer); cut = a .cut .counts }
+
+-- "9: no such position"; "13: the named set is empty or names a tablet above n"
+abbrev pub rangeKnown : Store → Range → Bool
+rangeKnown s (Interval p) = leb (p .0) (s .events)
+rangeKnown s Whole = true
+
+abbrev pub questionFits : ℕ → Question → Bool
+questionFits n (AtLeast k) = true
+questionFits n (Exactly k) = true
+questionFits n (All mask) = setFits n mask
+
+-- of a sound store: "asking 9, 13"
+abbrev pub askIn : Store → Job → AskOutcome
+askIn s job =
+    cond (not (rangeKnown s (job .range))) (record { refusal = 9; found = false; cut = zeros })
+    (cond (not (questionFits (s .tablets) (job .question))) (record { refusal = 13; found = false; cut = zeros })
+    (record { refusal = 0; found = answer s job .found; cut = answer s job .cut }))
+
+-- of any store
+abbrev pub asking : Store → Job → AskOutcome
+asking s job =
+    cond (eqb (storeRefusal s) 0) (askIn s job) (record { refusal = storeRefusal s; found = false; cut = zeros })
