@@ -1,24 +1,29 @@
 -- The ways through counting and asking, each as its outcome.
 use mathlib.Core.Path.{_≡_, refl, sym, ap, ap₂, _∙_, subst₂}
 use mathlib.Core.Logic.{_≢_}
-use mathlib.Core.Bool.{Bool, true, false, cond, not}
+use mathlib.Core.Bool.{Bool, true, false, cond, not, false≢true}
 use mathlib.Core.List.{List}
 use Prim.Native.Nat.{ℕ, _≤_, _<_}
 use native.Mathlib.Omega.{arith}
-use borrow.Author.Tests.{lt-ltb, le-ltb, eq-eqb, ne-eqb}
+use borrow.Author.Tests.{lt-ltb, le-ltb, le-leb, lt-leb}
 use lib.Dec.{ltb, eqb}
 use lib.ListN.{length}
+use Rattle.model.specs.declared.Record.{Record}
+use Rattle.model.specs.declared.Position.{Position}
+use Rattle.model.specs.declared.Range.the-variants.{Interval, Whole}
 use Rattle.model.specs.declared.Job.{Job}
-use Rattle.model.specs.Lists.{zeros}
+use Rattle.model.specs.Lists.{zeros, keep}
 use Rattle.model.specs.Follow.{tallies}
-use Rattle.model.specs.Store.{Store, clocksOf, talliesOf, storeRefusal}
-use Rattle.model.specs.Cuts.{cutsBetween, gmin, gbnd, interval, allCuts}
-use Rattle.model.specs.Questions.{answer}
+use Rattle.model.specs.Store.{Store, storeOf, clocksOf, talliesOf, storeRefusal}
+use Rattle.model.specs.Cuts.{cutsBetween, gmin, gbnd, interval, allCuts, cutsIn}
+use Rattle.model.specs.Questions.{meets, firstOf, answer}
 use Rattle.model.proofs.Bounds.{whole-range}
 use Rattle.store.proofs.Outcomes.{when-zero, when-some}
 use Rattle.cuts.specs.Walk.{Span}
 use Rattle.cuts.specs.Counting.{fits64, CountedTo}
-use Rattle.cuts.specs.Outcomes.{CountOutcome, countIn, counting, AskOutcome, rangeKnown, questionFits, askIn, asking}
+use Rattle.cuts.specs.Spans.{IntervalSpan, TraceSpan}
+use Rattle.cuts.specs.Asking.{AskedOf}
+use Rattle.cuts.specs.Outcomes.{SoundTrace, CountOutcome, countIn, counting, AskOutcome, refusedAsking, rangeKnown, questionFits, RangeRead, askIn, asking}
 use Rattle.cuts.proofs.Bounding.{interval-walk, trace-walk}
 
 -- the range that was read is the interval's, or the whole trace's
@@ -72,3 +77,65 @@ module _ (s : Store) (p : ℕ) where
       let zero-count : count ≡ 0 = told .count-is ∙ ap (λ (b : Bool). cond b (length cuts) 0) (sym (told .fits-is) ∙ over) in
       ap₂ {C = CountOutcome} (λ (b : Bool) (k : ℕ). record { refusal = cond b 0 11; count = k }) (sym over) (sym zero-count)
       ∙ count-within h cuts fits count same told
+
+-- the range of a question
+module _ (r : Record) (clocks order : List ℕ) where
+  pub read-outside : (p : Position) (known : Bool) (low high : List ℕ) → r .events < p .0 → known ≡ false → RangeRead r clocks order (Interval p) known low high
+  read-outside p known low high outside unknown =
+      record {
+        known-is = λ held. unknown ∙ sym (lt-leb (p .0) (r .events) outside);
+        span = λ yes-known. absurd (false≢true (sym unknown ∙ yes-known));
+        cuts = λ yes-known. absurd (false≢true (sym unknown ∙ yes-known));
+      }
+
+  module _ (trace : SoundTrace r clocks order) where
+    abbrev sound : Store
+    sound = storeOf r clocks (trace .held) order
+
+    pub read-interval : (p : Position) (low high : List ℕ) → p .0 ≤ r .events → IntervalSpan clocks order (p .0) low high → RangeRead r clocks order (Interval p) true low high
+    read-interval p low high inside bounds =
+        record {
+          known-is = λ held. sym (le-leb (p .0) (r .events) inside);
+          span = λ yes-known. interval-span sound (trace .none) (p .0) inside low high (bounds .low-is sound refl refl) (bounds .high-is);
+          cuts = λ yes-known held. interval-cuts (storeOf r clocks held order) (p .0) low high (bounds .low-is (storeOf r clocks held order) refl refl) (bounds .high-is);
+        }
+
+    pub read-whole : (low high : List ℕ) → TraceSpan order (r .events) low high → RangeRead r clocks order Whole true low high
+    read-whole low high bounds =
+        record {
+          known-is = λ held. refl;
+          span = λ yes-known. trace-span sound (trace .none) low high (bounds .low-is) (bounds .high-is);
+          cuts = λ yes-known held. trace-cuts (storeOf r clocks held order) low high (bounds .low-is) (bounds .high-is);
+        }
+
+-- asking
+module _ (s : Store) (job : Job) where
+  abbrev fitting : AskOutcome
+  fitting = record { refusal = 0; found = answer s job .found; cut = answer s job .cut }
+
+  abbrev known-range : AskOutcome
+  known-range = cond (not (questionFits (s .tablets) (job .question))) (refusedAsking 13) fitting
+
+  pub ask-outside : (o : AskOutcome) → o ≡ refusedAsking 9 → rangeKnown s (job .range) ≡ false → o ≡ askIn s job
+  ask-outside o told unknown = told ∙ sym (ap (λ (b : Bool). cond (not b) (refusedAsking 9) known-range) unknown)
+
+  module _ (known : rangeKnown s (job .range) ≡ true) where
+    past-9 : askIn s job ≡ known-range
+    past-9 = ap (λ (b : Bool). cond (not b) (refusedAsking 9) known-range) known
+
+    pub ask-bad-set : (o : AskOutcome) → o ≡ refusedAsking 13 → questionFits (s .tablets) (job .question) ≡ false → o ≡ askIn s job
+    ask-bad-set o told bad = told ∙ sym (past-9 ∙ ap (λ (b : Bool). cond (not b) (refusedAsking 13) fitting) bad)
+
+    pub ask-answered : (cuts : List (List ℕ)) (found said : Bool) (cut : List ℕ) → questionFits (s .tablets) (job .question) ≡ true → cuts ≡ cutsIn s (job .range) → AskedOf s (job .question) cuts found cut → found ≡ said → record { refusal = 0; found = said; cut = cut } ≡ askIn s job
+    unfolding answer
+    ask-answered cuts found said cut fits same told is-said =
+        ap₂ {C = AskOutcome} (λ (b : Bool) (G : List ℕ). record { refusal = 0; found = b; cut = G }) (sym is-said ∙ told .found-is) (told .cut-is)
+        ∙ ap {B = AskOutcome} (λ (l : List (List ℕ)). record { refusal = 0; found = firstOf (keep (meets s (job .question)) l) .found; cut = firstOf (keep (meets s (job .question)) l) .cut }) same
+        ∙ sym (past-9 ∙ ap (λ (b : Bool). cond (not b) (refusedAsking 13) fitting) fits)
+
+  pub ask-refused : (o : AskOutcome) (number : ℕ) → o ≡ refusedAsking number → number ≡ storeRefusal s → 1 ≤ storeRefusal s → o ≡ asking s job
+  ask-refused o number told same some =
+      told ∙ ap refusedAsking same ∙ sym (when-some (storeRefusal s) (askIn s job) (refusedAsking (storeRefusal s)) some)
+
+  pub ask-tested : (o : AskOutcome) → storeRefusal s ≡ 0 → o ≡ askIn s job → o ≡ asking s job
+  ask-tested o none told = told ∙ sym (when-zero (storeRefusal s) (askIn s job) (refusedAsking (storeRefusal s)) none)

@@ -14,12 +14,14 @@ use Rattle.model.specs.declared.Job.{Job}
 use Rattle.model.specs.Lists.{zeros}
 use Rattle.model.specs.Refusals.{numberOf, verdictNumber}
 use Rattle.model.specs.Store.{Store, storeOf, storeRefusal}
-use Rattle.model.specs.Cuts.{interval}
+use Rattle.model.specs.Clocks.{clockAt}
+use Rattle.model.specs.Cuts.{cutsBetween, interval, cutsIn}
 use Rattle.model.specs.Questions.{setFits, answer}
 use Rattle.cuts.specs.declared.Counted.{Counted}
 use Rattle.cuts.specs.declared.Answer.{Answer}
 use Rattle.cuts.specs.declared.Answer.the-variants.{Found, NoCut, Refused}
 use Rattle.cuts.specs.declared.Asked.{Asked}
+use Rattle.cuts.specs.Walk.{Span}
 use Rattle.cuts.specs.Counting.{fits64}
 
 -- a record with clocks and order that make a sound store with some held values, which the cuts do not depend on
@@ -65,6 +67,10 @@ answerFound (Refused why) = false
 abbrev pub asked : Asked → AskOutcome
 asked a = record { refusal = answerNumber (a .answer); found = answerFound (a .answer); cut = a .cut .counts }
 
+-- a refusal: no cut found, the cut of all zeros
+abbrev pub refusedAsking : ℕ → AskOutcome
+refusedAsking number = record { refusal = number; found = false; cut = zeros }
+
 -- "9: no such position"; "13: the named set is empty or names a tablet above n"
 abbrev pub rangeKnown : Store → Range → Bool
 rangeKnown s (Interval p) = leb (p .0) (s .events)
@@ -75,14 +81,20 @@ questionFits n (AtLeast k) = true
 questionFits n (Exactly k) = true
 questionFits n (All mask) = setFits n mask
 
+-- what is read of the range of a sound store: whether it is known, and where it is, its bounds
+pub record RangeRead (r : Record) (clocks order : List ℕ) (range : Range) (known : Bool) (low high : List ℕ) : Type 0 where
+  pub known-is : (held : List ℕ) → known ≡ rangeKnown (storeOf r clocks held order) range
+  pub span : known ≡ true → Span (r .tablets) clocks low high
+  pub cuts : known ≡ true → (held : List ℕ) → cutsBetween (clockAt clocks) low high ≡ cutsIn (storeOf r clocks held order) range
+
 -- of a sound store: "asking 9, 13"
 abbrev pub askIn : Store → Job → AskOutcome
 askIn s job =
-    cond (not (rangeKnown s (job .range))) (record { refusal = 9; found = false; cut = zeros })
-    (cond (not (questionFits (s .tablets) (job .question))) (record { refusal = 13; found = false; cut = zeros })
+    cond (not (rangeKnown s (job .range))) (refusedAsking 9)
+    (cond (not (questionFits (s .tablets) (job .question))) (refusedAsking 13)
     (record { refusal = 0; found = answer s job .found; cut = answer s job .cut }))
 
 -- of any store
 abbrev pub asking : Store → Job → AskOutcome
 asking s job =
-    cond (eqb (storeRefusal s) 0) (askIn s job) (record { refusal = storeRefusal s; found = false; cut = zeros })
+    cond (eqb (storeRefusal s) 0) (askIn s job) (refusedAsking (storeRefusal s))

@@ -12,6 +12,7 @@ ghost use Rattle.model.specs.Clocks.{clockAt};
 ghost use Rattle.model.specs.Cuts.{cutsBetween};
 ghost use Rattle.model.specs.Questions.{sumHeld, setFits, meets};
 ghost use Rattle.cuts.specs.Walk as walk;
+ghost use Rattle.cuts.specs.Outcomes.{questionFits};
 ghost use Rattle.cuts.specs.Asking.{ForHeld, HeldReady, HoldingOf, eachNamed, AskedOf};
 
 // What the tablet in column j holds at a cut.
@@ -115,7 +116,7 @@ pub(crate) fn first_meeting(
 }
 
 // Whether a named set is not empty and names only tablets up to n.
-pub(crate) fn set_fits(n: usize, mask: u8) -> bool
+fn set_fits(n: usize, mask: u8) -> bool
     ensures { λ r. ⌜ r ≡ setFits n mask ⌝ }
 {
     if mask == 0 {
@@ -131,4 +132,15 @@ pub(crate) fn set_fits(n: usize, mask: u8) -> bool
         j += 1;
     }
     true
+}
+
+// Whether a question can be put to n tablets.
+pub(crate) fn question_fits(n: usize, question: Question) -> bool
+    ensures { λ r. ⌜ r ≡ questionFits n question ⌝ }
+{
+    match question {
+        Question::AtLeast(_) => true,
+        Question::Exactly(_) => true,
+        Question::All(mask) => set_fits(n, mask),
+    }
 }

@@ -1,8 +1,15 @@
-// For the layers above: counting an interval of a store that its caller knows to be sound, so that a report tests the store
+// For the layers above: counting and asking of a store that its caller knows to be sound, so that a report tests the store
 // once and not once an interval.
+use crate::Answer;
+use crate::Asked;
 use crate::Counted;
+use crate::asking::first_meeting;
+use crate::asking::question_fits;
 use crate::counting::count_span;
 use crate::spans::interval_span;
+use crate::spans::range_span;
+use model::Cut;
+use model::Job;
 use model::Position;
 use model::Record;
 use model::Refusal;
@@ -10,8 +17,9 @@ use model::Verdict;
 ghost use mathlib.Core.Path.{_≡_};
 ghost use mathlib.Core.List.{List};
 ghost use Prim.Native.Nat.{ℕ};
-ghost use Rattle.model.specs.Store.{storeOf};
-ghost use Rattle.cuts.specs.Outcomes.{SoundTrace, counted, countIn};
+ghost use Rattle.model.specs.Refusals.{numberOf};
+ghost use Rattle.model.specs.Store.{storeOf, storeRefusal};
+ghost use Rattle.cuts.specs.Outcomes.{SoundTrace, counted, countIn, asked, askIn, refusedAsking};
 
 pub fn count_interval(record: Record, clocks: &[u8], order: &[u8], position: Position) -> Counted
     requires { ⌜ SoundTrace «record» (now clocks) (now order) ⌝ }
@@ -35,5 +43,44 @@ pub fn count_interval(record: Record, clocks: &[u8], order: &[u8], position: Pos
     Counted {
         verdict: Verdict::Refused(Refusal::CountTooLarge),
         count: 0,
+    }
+}
+
+// The first cut of a job's range that meets its question.
+pub fn answer_job(record: Record, clocks: &[u8], held: &[u16], order: &[u8], job: Job) -> Asked
+    requires { ⌜ storeRefusal (storeOf «record» (now clocks) (now held) (now order)) ≡ 0 ⌝ }
+    ensures { λ r. ⌜ asked r ≡ askIn (storeOf «record» (now (clocks .entry)) (now (held .entry)) (now (order .entry))) job ⌝ }
+{
+    let range = job.range;
+    let question = job.question;
+    let ranged = range_span(record, clocks, order, range);
+    if !ranged.known {
+        return refused_asking(Refusal::NoSuchPosition);
+    }
+    let n = record.tablets as usize;
+    if !question_fits(n, question) {
+        return refused_asking(Refusal::BadSet);
+    }
+    let span = ranged.span;
+    let first = first_meeting(n, clocks, held, span, question);
+    let cut = first.cut;
+    if first.found {
+        return Asked {
+            answer: Answer::Found,
+            cut,
+        };
+    }
+    Asked {
+        answer: Answer::NoCut,
+        cut,
+    }
+}
+
+pub(crate) fn refused_asking(why: Refusal) -> Asked
+    ensures { λ r. ⌜ asked r ≡ refusedAsking (numberOf why) ⌝ }
+{
+    Asked {
+        answer: Answer::Refused(why),
+        cut: Cut { counts: [0u8; 8] },
     }
 }

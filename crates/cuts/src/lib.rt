@@ -7,25 +7,18 @@ pub mod inner;
 mod lex;
 mod spans;
 
-use asking::first_meeting;
-use asking::set_fits;
+use inner::answer_job;
 use inner::count_interval;
-use lex::Span;
+use inner::refused_asking;
 use model::Cut;
 use model::Job;
 use model::Position;
-use model::Question;
-use model::Range;
 use model::Record;
 use model::Refusal;
 use model::Verdict;
-use spans::interval_span;
-use spans::trace_span;
 ghost use mathlib.Core.Path.{_≡_};
-ghost use mathlib.Core.List.{List};
-ghost use Prim.Native.Nat.{ℕ};
-ghost use Rattle.model.specs.Store.{storeOf, storeRefusal};
-ghost use Rattle.cuts.specs.Outcomes.{SoundTrace, counted, counting, questionFits, asked, askIn, asking};
+ghost use Rattle.model.specs.Store.{storeOf};
+ghost use Rattle.cuts.specs.Outcomes.{counted, counting, asked, asking};
 
 // The number of cuts, or a refusal with 0.
 pub struct Counted {
@@ -62,4 +55,14 @@ pub enum Answer {
 pub struct Asked {
     pub answer: Answer,
     pub cut: Cut,
+}
+
+pub fn ask(record: Record, clocks: &[u8], held: &[u16], order: &[u8], job: Job) -> Asked
+    ensures { λ r. ⌜ asked r ≡ asking (storeOf «record» (now (clocks .entry)) (now (held .entry)) (now (order .entry))) job ⌝ }
+{
+    let v = store::check(record, clocks, held, order);
+    match v {
+        Verdict::Refused(why) => refused_asking(why),
+        Verdict::Passed => answer_job(record, clocks, held, order, job),
+    }
 }
