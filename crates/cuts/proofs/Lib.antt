@@ -8,3 +8,4 @@ pub mod Counts
 pub mod Holdings
 pub mod Firsts
 pub mod Answers
+pub mod Progress

@@ -16,6 +16,7 @@ use Rattle.model.proofs.Ranges.{InRange, range-from}
 use Rattle.model.proofs.Step.{step-next, range-first}
 use Rattle.cuts.specs.declared.lex.Next.{Next}
 use Rattle.cuts.specs.Walk.{Span, Standing, stepped}
+use Rattle.cuts.specs.Listing.{toShow}
 
 module _ (n : ℕ) (clocks low high : List ℕ) (span : Span n clocks low high) where
   abbrev cuts : List (List ℕ)
@@ -45,3 +46,11 @@ module _ (n : ℕ) (clocks low high : List ℕ) (span : Span n clocks low high) 
     walk-stands e =
         let member : List·Memᴰ (r .cut .counts) (keep (lexBefore G) cuts) = subst (List·Memᴰ (r .cut .counts)) (sym (walk-goes-on e)) (List·Memᴰ·head refl) in
         record { span = span; inside = range-from (clockAt clocks) low high (span .bounds .long) (r .cut .counts) (keep-from (lexBefore G) cuts member .0) }
+
+    -- the same as what is to be shown next
+    pub walk-behind : keep (lexBefore G) cuts ≡ toShow cuts r
+    walk-behind = behind ∙ shape (r .found)
+      where
+        shape : (b : Bool) → following cuts (cond b (some (r .cut .counts)) none) ≡ cond b (from-cut (r .cut .counts)) []
+        shape true = refl
+        shape false = refl

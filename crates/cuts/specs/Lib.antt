@@ -3,3 +3,4 @@ pub mod Spans
 pub mod Counting
 pub mod Asking
 pub mod Outcomes
+pub mod Listing

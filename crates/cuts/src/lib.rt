@@ -5,6 +5,7 @@ mod asking;
 mod counting;
 pub mod inner;
 mod lex;
+mod listing;
 mod spans;
 
 use inner::answer_job;
