@@ -1,12 +1,9 @@
 -- The ways through counting and asking, each as its outcome.
 use mathlib.Core.Path.{_≡_, refl, sym, ap, ap₂, _∙_, subst₂}
-use mathlib.Core.Logic.{_≢_}
 use mathlib.Core.Bool.{Bool, true, false, cond, not, false≢true}
 use mathlib.Core.List.{List}
 use Prim.Native.Nat.{ℕ, _≤_, _<_}
-use native.Mathlib.Omega.{arith}
 use borrow.Author.Tests.{lt-ltb, le-ltb, le-leb, lt-leb}
-use lib.Dec.{ltb, eqb}
 use lib.ListN.{length}
 use Rattle.model.specs.declared.Record.{Record}
 use Rattle.model.specs.declared.Position.{Position}
@@ -15,7 +12,7 @@ use Rattle.model.specs.declared.Job.{Job}
 use Rattle.model.specs.Lists.{zeros, keep}
 use Rattle.model.specs.Follow.{tallies}
 use Rattle.model.specs.Store.{Store, storeOf, clocksOf, talliesOf, storeRefusal}
-use Rattle.model.specs.Cuts.{cutsBetween, gmin, gbnd, interval, allCuts, cutsIn}
+use Rattle.model.specs.Cuts.{cutsBetween, gmin, interval, allCuts, cutsIn}
 use Rattle.model.specs.Questions.{meets, firstOf, answer}
 use Rattle.model.proofs.Bounds.{whole-range}
 use Rattle.store.proofs.Outcomes.{when-zero, when-some}

@@ -1,7 +1,7 @@
 -- Gmin and Gbnd as the code reads them; and what a sound store gives to read them by.
-use mathlib.Core.Path.{_≡_, refl, sym, ap, ap₂, _∙_, subst}
+use mathlib.Core.Path.{_≡_, refl, sym, ap, ap₂, _∙_}
 use mathlib.Core.List.{List}
-use Prim.Native.Nat.{ℕ, zero, suc, _+_, _-_, _*_, _≤_, _<_}
+use Prim.Native.Nat.{ℕ, suc, _+_, _-_, _*_, _≤_, _<_}
 use native.Mathlib.Omega.{arith}
 use lib.ListN.{length, getD}
 use Rattle.model.specs.Lists.{at, zeros}
@@ -10,13 +10,12 @@ use Rattle.model.specs.Clocks.{clockIn, clockAt}
 use Rattle.model.specs.Follow.{columnAt, tally, tallies}
 use Rattle.model.specs.Store.{Store, clocksOf, talliesOf, storeRefusal}
 use Rattle.model.specs.Cuts.{gmin, gbnd}
-use Rattle.model.proofs.Ranges.{InRange}
-use Rattle.model.proofs.Valid.{at-tallies, tally-own, tally-mono, length-tallies}
+use Rattle.model.proofs.Valid.{at-tallies, tally-own, tally-mono}
 use Rattle.model.proofs.Total.{tally-bounded, tally-above}
 use Rattle.model.proofs.Sound.{Sound, Full, follows-at}
 use Rattle.model.proofs.Bounds.{Bounds, gmin-long, interval-bounds, whole-bounds}
 use Rattle.store.proofs.Ready.{tested-sound, tested-full}
-use Rattle.cuts.specs.Spans.{Countable, IntervalReady, IntervalSpan, TraceSpan}
+use Rattle.cuts.specs.Spans.{Countable, IntervalReady}
 use Rattle.cuts.specs.Walk.{Span}
 
 -- the event at position p: its tablet's column, and its number there by the tallies after it

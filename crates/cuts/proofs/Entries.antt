@@ -1,12 +1,12 @@
 -- Entries read in the lent bytes: whether a tablet can be raised, and the largest of what is known.
-use mathlib.Core.Path.{_≡_, refl, sym, ap, ap₂, _∙_}
+use mathlib.Core.Path.{_≡_, sym, ap, ap₂, _∙_}
 use mathlib.Core.Bool.{Bool, true, false, _&&_}
 use mathlib.Core.List.{List}
-use Prim.Native.Nat.{ℕ, suc, _+_, _*_, _≤_, _<_, max}
+use Prim.Native.Nat.{ℕ, _+_, _*_, _≤_, _<_, max}
 use native.Mathlib.Omega.{arith}
 use native.Mathlib.Numerals.{add-one}
 use borrow.Author.Tests.{lt-ltb, le-ltb, lt-leb}
-use lib.Dec.{leb, ltb}
+use lib.Dec.{leb}
 use Rattle.model.specs.Lists.{at, allBelow, maxBelow}
 use Rattle.model.specs.Clocks.{Clocks, clockIn}
 use Rattle.model.specs.Step.{canRaise}

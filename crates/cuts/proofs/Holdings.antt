@@ -3,16 +3,16 @@ use mathlib.Core.Path.{_≡_, refl, sym, ap, ap₂, _∙_}
 use mathlib.Core.Logic.{_≢_}
 use mathlib.Core.Bool.{Bool, true, false, cond, _&&_}
 use mathlib.Core.List.{List}
-use Prim.Native.Nat.{ℕ, zero, suc, _+_, _/_, _%_, _≤_, _<_}
+use Prim.Native.Nat.{ℕ, zero, suc, _+_, _/_, _%_, _≤_}
 use native.Mathlib.Omega.{arith}
 use native.Mathlib.Numerals.{add-one}
 use borrow.Author.Tests.{eq-eqb, ne-eqb, le-leb, lt-leb}
-use lib.Dec.{leb, ltb, eqb}
+use lib.Dec.{ltb, eqb}
 use lib.ListN.{getD}
 use Rattle.model.specs.Lists.{at, allBelow, sumBelow}
 use Rattle.model.specs.Numbers.{slot}
 use Rattle.model.specs.Store.{Store}
-use Rattle.model.specs.Questions.{holding, sumHeld, names, setFits}
+use Rattle.model.specs.Questions.{holding, names, setFits}
 
 -- a tablet's holding
 pub holds-nothing : (s : Store) (G : List ℕ) (j : ℕ) → at G j ≡ 0 → 0 ≡ holding s G j

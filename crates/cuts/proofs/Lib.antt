@@ -9,3 +9,4 @@ pub mod Holdings
 pub mod Firsts
 pub mod Answers
 pub mod Progress
+pub mod Listings

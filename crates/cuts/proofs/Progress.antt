@@ -2,17 +2,16 @@
 use mathlib.Core.Path.{_≡_, refl, sym, ap, ap₂, _∙_}
 use mathlib.Core.Bool.{Bool, true, false, cond}
 use mathlib.Core.List.{List, [], _∷_, _++_, append-assoc, append-nil}
-use Prim.Native.Nat.{ℕ, suc, _+_, _-_, _*_, _/_, _≤_, _<_}
+use Prim.Native.Nat.{ℕ, _+_, _-_, _*_, _≤_, _<_}
 use native.Mathlib.Omega.{arith}
 use borrow.Author.Tests.{lt-ltb, le-ltb}
-use lib.Dec.{ltb}
 use lib.ListN.{length, take, drop, length-append, length-drop}
-use lib.Seq.{sets, sets-eq, take-at, drop-at, drop-drop, take-all, drop-append-add}
+use lib.Seq.{sets, sets-eq, take-at, drop-drop, take-all, drop-append-add}
 use Rattle.model.specs.declared.Place.{Place}
 use Rattle.model.specs.Lists.{keep}
 use Rattle.model.specs.Lexical.{lexBefore}
 use Rattle.cuts.specs.declared.lex.Next.{Next}
-use Rattle.cuts.specs.Listing.{toShow, flat, room, written, behindAll, ShownOf}
+use Rattle.cuts.specs.Listing.{toShow, flat, room, behindAll, ShownOf}
 
 flat-snoc : (Gs : List (List ℕ)) (G : List ℕ) → flat (Gs ++ (G ∷ [])) ≡ flat Gs ++ G
 flat-snoc [] G = append-nil G

@@ -1,7 +1,6 @@
 -- Filling a raised cut from the front: kept up to column k, the least that is needed behind it, zero above n.
-use mathlib.Core.Path.{_≡_, refl, sym, ap, ap₂, _∙_}
+use mathlib.Core.Path.{_≡_, refl, sym, ap, _∙_}
 use mathlib.Core.Logic.{_≢_, by-cases}
-use mathlib.Core.Bool.{Bool, true, false, cond}
 use mathlib.Core.List.{List}
 use Prim.Native.Nat.{ℕ, suc, _+_, _≤_, _<_, max}
 use native.Mathlib.Omega.{arith}

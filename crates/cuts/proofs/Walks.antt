@@ -2,17 +2,16 @@
 use mathlib.Core.Path.{_≡_, refl, sym, ap, _∙_, subst}
 use mathlib.Core.Bool.{Bool, true, false, cond}
 use mathlib.Core.List.{List, [], _∷_, List·Memᴰ, List·Memᴰ·head}
-use mathlib.Core.Option.{Option, none, some}
-use Prim.Native.Nat.{ℕ, _≤_, _<_}
-use native.Mathlib.Omega.{arith}
+use mathlib.Core.Option.{none, some}
+use Prim.Native.Nat.{ℕ}
 use Rattle.model.specs.Lists.{keep}
-use Rattle.model.specs.Clocks.{Clocks, clockAt}
+use Rattle.model.specs.Clocks.{clockAt}
 use Rattle.model.specs.Cuts.{cutsBetween}
 use Rattle.model.specs.Lexical.{lexBefore}
 use Rattle.model.specs.Step.{step, following}
 use Rattle.model.proofs.Entries.{at-most-refl}
 use Rattle.model.proofs.Lists.{keep-from}
-use Rattle.model.proofs.Ranges.{InRange, range-from}
+use Rattle.model.proofs.Ranges.{range-from}
 use Rattle.model.proofs.Step.{step-next, range-first}
 use Rattle.cuts.specs.declared.lex.Next.{Next}
 use Rattle.cuts.specs.Walk.{Span, Standing, stepped}

@@ -1,13 +1,10 @@
 -- Document 01, "Counting": "The number of cuts of an interval, in 64 bits."
 use mathlib.Core.Path.{_≡_}
-use Prim.Native.Nat.{ℕ, _^_, _≤_}
+use Prim.Native.Nat.{ℕ, _^_}
 use mathlib.Core.Bool.{Bool, cond}
 use mathlib.Core.List.{List}
-use lib.Dec.{ltb, eqb}
+use lib.Dec.{ltb}
 use lib.ListN.{length}
-use Rattle.model.specs.Refusals.{verdictNumber, orElse}
-use Rattle.model.specs.Store.{Store, storeRefusal}
-use Rattle.model.specs.Cuts.{interval}
 
 -- "11: the count does not fit 64 bits"
 abbrev pub fits64 : ℕ → Bool

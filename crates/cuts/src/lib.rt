@@ -5,20 +5,24 @@ mod asking;
 mod counting;
 pub mod inner;
 mod lex;
-mod listing;
+mod lister;
 mod spans;
 
 use inner::answer_job;
 use inner::count_interval;
 use inner::refused_asking;
+use lister::list_interval;
+use lister::refused_listing;
 use model::Cut;
 use model::Job;
+use model::Place;
 use model::Position;
 use model::Record;
 use model::Refusal;
 use model::Verdict;
 ghost use mathlib.Core.Path.{_≡_};
 ghost use Rattle.model.specs.Store.{storeOf};
+ghost use Rattle.cuts.specs.Listing.{listed, listing};
 ghost use Rattle.cuts.specs.Outcomes.{counted, counting, asked, asking};
 
 // The number of cuts, or a refusal with 0.
@@ -65,5 +69,37 @@ pub fn ask(record: Record, clocks: &[u8], held: &[u16], order: &[u8], job: Job) 
     match v {
         Verdict::Refused(why) => refused_asking(why),
         Verdict::Passed => answer_job(record, clocks, held, order, job),
+    }
+}
+
+// What a listing says: the interval has no later cut, or more, or it was refused.
+pub enum Listing {
+    Done,
+    More,
+    Refused(Refusal),
+}
+
+pub struct Listed {
+    pub answer: Listing,
+    pub written: usize,
+    pub place: Place,
+}
+
+// Writes the cuts of an interval that stand behind a place, as many as fit.
+pub fn list(
+    record: Record,
+    clocks: &[u8],
+    held: &[u16],
+    order: &[u8],
+    position: Position,
+    place: Place,
+    out: &mut [u8],
+) -> Listed
+    ensures { λ r. ⌜ listed r (now (out .exit)) ≡ listing (storeOf «record» (now (clocks .entry)) (now (held .entry)) (now (order .entry))) (position .0) place (now (out .entry)) ⌝ }
+{
+    let v = store::check(record, clocks, held, order);
+    match v {
+        Verdict::Refused(why) => refused_listing(why, place),
+        Verdict::Passed => list_interval(record, clocks, order, position, place, out),
     }
 }

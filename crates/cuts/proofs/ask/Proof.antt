@@ -1,7 +1,7 @@
 -- `ask`: a store that its test refuses is not asked; a sound one answers the job.
 use mathlib.Core.Path.{_≡_, ap, sym, _∙_}
 use Rattle.model.specs.Refusals.{verdictNumber}
-use Rattle.model.specs.Store.{Store, storeOf, storeRefusal}
+use Rattle.model.specs.Store.{storeOf, storeRefusal}
 use Rattle.model.proofs.Refusals.{passed-zero, refused-some}
 use Rattle.cuts.proofs.Answers.{ask-refused, ask-tested}
 use borrow.Author.Needs.{needs}

@@ -1,6 +1,6 @@
 -- `count`: a store that its test refuses is not counted; of a sound one the interval is.
 use mathlib.Core.Path.{_≡_}
-use Rattle.model.specs.Store.{Store, storeOf, storeRefusal}
+use Rattle.model.specs.Store.{storeOf, storeRefusal}
 use Rattle.model.proofs.Refusals.{passed-zero, refused-some}
 use Rattle.cuts.proofs.Answers.{count-refused, count-tested}
 use borrow.Author.Needs.{needs}

@@ -1,8 +1,7 @@
 -- `first_meeting`: no cut passed so far meets the question, so the first is to be found from the cut on.
-use mathlib.Core.Path.{_≡_, refl, sym, ap, _∙_}
-use mathlib.Core.Bool.{Bool, true, false}
+use mathlib.Core.Path.{_≡_, sym, ap, _∙_}
 use mathlib.Core.List.{List, _∷_}
-use Prim.Native.Nat.{ℕ, _≤_, _<_}
+use Prim.Native.Nat.{ℕ}
 use native.Mathlib.Omega.{arith}
 use borrow.Author.Tests.{not-true, not-false}
 use lib.ListN.{length}
@@ -15,7 +14,7 @@ use Rattle.model.specs.Lexical.{lexBefore}
 use Rattle.model.specs.Questions.{meets, Witness, firstOf}
 use Rattle.cuts.specs.declared.lex.Span.{Span}
 use Rattle.cuts.specs.Walk.{Standing}
-use Rattle.cuts.specs.Asking.{ForHeld, AskedOf}
+use Rattle.cuts.specs.Asking.{ForHeld}
 use Rattle.cuts.proofs.Walks.{walk-begins, all-from-first, walk-ends, walk-goes-on, walk-stands}
 use Rattle.cuts.proofs.Firsts.{first-here, first-skips, first-ends}
 use Rattle.cuts.proofs.asking.first_meeting.Statement.{statement}

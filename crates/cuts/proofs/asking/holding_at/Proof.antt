@@ -1,9 +1,6 @@
 -- `holding_at`: no event holds nothing; an event's held value lies at its slot.
-use mathlib.Core.Path.{_≡_}
-use Prim.Native.Nat.{ℕ, _≤_, _<_}
+use Prim.Native.Nat.{_<_}
 use native.Mathlib.Omega.{arith}
-use lib.ListN.{length}
-use Rattle.model.specs.Lists.{at}
 use Rattle.model.specs.Numbers.{slot}
 use Rattle.cuts.proofs.Holdings.{holds-nothing, holds-stored}
 use borrow.Author.Needs.{needs}

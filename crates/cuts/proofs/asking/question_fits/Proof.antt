@@ -1,7 +1,5 @@
 -- `question_fits`: only a named set can be unfit.
-use mathlib.Core.Path.{_≡_, sym, ap, _∙_}
-use mathlib.Core.Bool.{Bool}
-use Rattle.model.specs.declared.Question.{Question}
+use mathlib.Core.Path.{sym, ap, _∙_}
 use Rattle.cuts.specs.Outcomes.{questionFits}
 use borrow.Author.Needs.{needs}
 use Rattle.cuts.proofs.asking.question_fits.Statement.{statement}

@@ -1,13 +1,13 @@
 -- `set_fits`: the bits looked at so far name tablets up to n; `rest` is the mask without them.
 use mathlib.Core.Path.{_≡_, refl, sym, ap, _∙_}
 use mathlib.Core.Bool.{Bool, true, cond}
-use Prim.Native.Nat.{ℕ, _+_, _-_, _/_, _≤_, _<_}
+use Prim.Native.Nat.{ℕ, _-_, _≤_}
 use native.Mathlib.Omega.{arith}
 use borrow.Author.Needs.{needs}
 use borrow.Author.Tests.{not-true, not-false}
 use lib.Dec.{ltb}
 use Rattle.model.specs.Lists.{allBelow}
-use Rattle.model.specs.Questions.{names, setFits}
+use Rattle.model.specs.Questions.{names}
 use Rattle.model.proofs.Tests.{allBelow-more, allBelow-stop}
 use Rattle.cuts.proofs.Holdings.{halved, halved-more, named-fact, set-empty, set-by-bits}
 use Rattle.cuts.proofs.asking.set_fits.Statement.{statement}

@@ -1,9 +1,8 @@
 -- `sum_held`: the sum of the holdings looked at so far, each of 16 bits.
-use mathlib.Core.Path.{_≡_, refl, sym, ap, _∙_}
-use Prim.Native.Nat.{ℕ, _+_, _-_, _*_, _≤_, _<_}
+use mathlib.Core.Path.{_≡_, refl, ap, _∙_}
+use Prim.Native.Nat.{ℕ, _-_, _*_, _≤_}
 use native.Mathlib.Omega.{arith}
-use Rattle.model.specs.Lists.{at, sumBelow}
-use Rattle.model.specs.Store.{Store}
+use Rattle.model.specs.Lists.{sumBelow}
 use Rattle.model.specs.Questions.{holding, sumHeld}
 use Rattle.cuts.specs.Asking.{ForHeld}
 use Rattle.cuts.proofs.Holdings.{sum-more}

@@ -1,12 +1,11 @@
 -- `answer_job`: 9 for a position above T, 13 for a set that does not fit, else the first cut of the range that meets.
-use mathlib.Core.Path.{_≡_, refl, sym, ap, _∙_}
+use mathlib.Core.Path.{_≡_, refl, sym, _∙_}
 use mathlib.Core.Bool.{true, false}
-use Prim.Native.Nat.{ℕ, _≤_, _<_}
 use native.Mathlib.Omega.{arith}
 use borrow.Author.Tests.{not-true, not-false}
-use Rattle.model.specs.Store.{Store, storeOf}
+use Rattle.model.specs.Store.{storeOf}
 use Rattle.store.proofs.Ready.{tested-full}
-use Rattle.cuts.specs.Outcomes.{SoundTrace, rangeKnown, questionFits}
+use Rattle.cuts.specs.Outcomes.{rangeKnown, questionFits}
 use Rattle.cuts.proofs.Answers.{ask-outside, ask-bad-set, ask-answered}
 use borrow.Author.Needs.{needs}
 use Rattle.cuts.proofs.inner.answer_job.Statement.{statement}

@@ -1,9 +1,6 @@
 -- `count_interval`: a position above T is refused; else the interval's range is counted.
-use mathlib.Core.Path.{_≡_, refl, sym, ap, _∙_}
-use mathlib.Core.List.{List}
-use Prim.Native.Nat.{ℕ, _≤_, _<_}
-use native.Mathlib.Omega.{arith}
-use Rattle.model.specs.Store.{Store, storeOf}
+use mathlib.Core.Path.{refl}
+use Rattle.model.specs.Store.{storeOf}
 use Rattle.cuts.proofs.Bounding.{interval-ready}
 use Rattle.cuts.proofs.Answers.{interval-cuts, interval-span, count-outside, count-fits, count-over}
 use borrow.Author.Needs.{needs}

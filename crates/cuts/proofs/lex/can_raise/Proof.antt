@@ -1,10 +1,10 @@
 -- `can_raise`: the entries passed so far are in the cut; one that is not ends the loop.
 use mathlib.Core.Path.{_≡_, refl, sym, ap, _∙_}
 use mathlib.Core.Bool.{true}
-use Prim.Native.Nat.{ℕ, _+_, _-_, _*_, _≤_, _<_}
+use Prim.Native.Nat.{ℕ, _+_, _-_, _*_, _≤_}
 use native.Mathlib.Omega.{arith}
 use borrow.Author.Tests.{le-leb}
-use lib.ListN.{length, getD}
+use lib.ListN.{length}
 use Rattle.model.specs.Lists.{at, allBelow}
 use Rattle.model.specs.Numbers.{slot}
 use Rattle.model.specs.Clocks.{clockIn, clockAt}

@@ -1,12 +1,12 @@
 -- `known_entry`: no event knows nothing; an event's entry is a byte of its slot.
-use mathlib.Core.Path.{_≡_, sym, ap, _∙_}
+use mathlib.Core.Path.{sym, ap, _∙_}
 use mathlib.Core.List.{List}
 use Prim.Native.Nat.{ℕ, _+_, _*_, _≤_}
 use native.Mathlib.Omega.{arith}
 use lib.ListN.{length}
 use Rattle.model.specs.Lists.{at}
 use Rattle.model.specs.Numbers.{slot}
-use Rattle.model.specs.Clocks.{clockIn, clockAt, known}
+use Rattle.model.specs.Clocks.{clockAt, known}
 use Rattle.model.proofs.Entries.{at-zeros}
 use Rattle.model.proofs.Ranges.{known-event}
 use Rattle.cuts.proofs.Entries.{entry-byte}

@@ -1,8 +1,8 @@
 -- `least_entry`: the largest so far, of the floor and of what the first i tablets' events know.
-use mathlib.Core.Path.{_≡_, refl, sym, ap, _∙_}
+use mathlib.Core.Path.{_≡_, ap, _∙_}
 use mathlib.Core.Logic.{⊎-elim}
 use mathlib.Core.List.{List}
-use Prim.Native.Nat.{ℕ, _+_, _-_, _≤_, _<_, max}
+use Prim.Native.Nat.{ℕ, _+_, _-_, _≤_, max}
 use native.Mathlib.Omega.{arith}
 use Rattle.model.specs.Lists.{at, maxBelow}
 use Rattle.model.specs.Clocks.{clockAt, known}

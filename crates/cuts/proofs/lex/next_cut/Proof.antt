@@ -1,12 +1,11 @@
 -- `next_cut`: no tablet from column k on can be raised, so the search goes on below k.
 use mathlib.Core.Path.{_≡_, refl, sym, ap, _∙_}
-use mathlib.Core.Bool.{true}
 use mathlib.Core.List.{List}
 use mathlib.Core.Option.{Option, some}
-use Prim.Native.Nat.{ℕ, _-_, _≤_, _<_}
+use Prim.Native.Nat.{ℕ, _-_, _≤_}
 use native.Mathlib.Omega.{arith}
 use Rattle.model.specs.Clocks.{clockAt}
-use Rattle.model.specs.Step.{canRaise, raised, raiseBelow, step}
+use Rattle.model.specs.Step.{raiseBelow, step}
 use Rattle.model.proofs.Tests.{from-true}
 use Rattle.cuts.proofs.Below.{below-passed, below-found, step-from}
 use Rattle.cuts.proofs.lex.next_cut.Statement.{statement}

@@ -1,6 +1,5 @@
 -- `raise`: the columns before j are filled; the rest are as they were.
-use mathlib.Core.Path.{_≡_, _∙_}
-use Prim.Native.Nat.{ℕ, _+_, _-_, _≤_, _<_}
+use Prim.Native.Nat.{_-_}
 use native.Mathlib.Omega.{arith}
 use Rattle.model.specs.Clocks.{clockAt}
 use Rattle.cuts.proofs.Raise.{Filled, filled-more, column-fits, next-fits, first-stored, filled-start, filled-end}

@@ -1,9 +1,9 @@
 -- `interval_span`: position 0 has the empty cut; another has its event's clock and the tallies after it.
-use mathlib.Core.Path.{_≡_, refl, sym, ap, _∙_, subst}
+use mathlib.Core.Path.{_≡_, sym, ap, _∙_}
 use mathlib.Core.List.{List}
-use Prim.Native.Nat.{ℕ, _+_, _-_, _*_, _≤_, _<_}
+use Prim.Native.Nat.{ℕ, _-_, _≤_}
 use native.Mathlib.Omega.{arith}
-use lib.ListN.{length, getD}
+use lib.ListN.{getD}
 use Rattle.model.specs.Lists.{at, zeros}
 use Rattle.model.specs.Numbers.{slot}
 use Rattle.model.specs.Clocks.{clockIn}

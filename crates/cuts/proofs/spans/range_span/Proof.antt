@@ -1,11 +1,10 @@
 -- `range_span`: a position above T has no range; another has its interval's, and the whole trace its own.
-use mathlib.Core.Path.{_≡_, refl, sym, subst}
+use mathlib.Core.Path.{sym, subst}
 use mathlib.Core.Bool.{true}
-use Prim.Native.Nat.{ℕ, _≤_, _<_}
 use native.Mathlib.Omega.{arith}
 use Rattle.model.specs.declared.Range.{Range}
 use Rattle.model.specs.Store.{Store, storeOf}
-use Rattle.cuts.specs.Outcomes.{SoundTrace, RangeRead}
+use Rattle.cuts.specs.Outcomes.{RangeRead}
 use Rattle.cuts.proofs.Bounding.{countable, interval-ready}
 use Rattle.cuts.proofs.Answers.{read-outside, read-interval, read-whole}
 use borrow.Author.Needs.{needs}

@@ -1,5 +1,5 @@
 -- `is_closed`: what the tablets passed so far know is in the cut; one that knows more ends the loop.
-use mathlib.Core.Path.{_≡_, refl, sym, ap, _∙_}
+use mathlib.Core.Path.{_≡_, refl, sym, _∙_}
 use mathlib.Core.Bool.{Bool, true}
 use mathlib.Core.List.{List}
 use Prim.Native.Nat.{ℕ, _-_, _≤_}
@@ -11,8 +11,8 @@ use Rattle.model.specs.Lists.{at, allBelow}
 use Rattle.model.specs.Clocks.{clockAt, covered, known}
 use Rattle.model.specs.Cuts.{closed}
 use Rattle.model.proofs.Tests.{allBelow-more, allBelow-stop}
-use Rattle.cuts.proofs.listing.is_closed.Statement.{statement}
-use Rattle.cuts.proofs.listing.is_closed.Tie as tie
+use Rattle.cuts.proofs.lister.is_closed.Statement.{statement}
+use Rattle.cuts.proofs.lister.is_closed.Tie as tie
 
 abbrev one : List ℕ → List ℕ → ℕ → Bool
 one clocks counts i = covered (known (clockAt clocks) i (at counts i)) counts

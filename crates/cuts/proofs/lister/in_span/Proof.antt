@@ -1,7 +1,6 @@
 -- `in_span`: between the bounds, and closed.
-use mathlib.Core.Path.{_≡_, refl, sym, ap, _∙_}
-use mathlib.Core.Bool.{Bool, true, false, _&&_}
-use Prim.Native.Nat.{ℕ, _≤_}
+use mathlib.Core.Path.{_≡_, sym, ap, _∙_}
+use mathlib.Core.Bool.{Bool, true, _&&_}
 use native.Mathlib.Omega.{arith}
 use borrow.Author.Tests.{not-true, not-false}
 use Rattle.model.specs.Clocks.{clockAt, covered}
@@ -9,8 +8,8 @@ use Rattle.model.specs.Cuts.{closed, consistent}
 use Rattle.model.proofs.Tests.{from-true}
 use Rattle.model.proofs.Entries.{covered-at-most}
 use borrow.Author.Needs.{needs}
-use Rattle.cuts.proofs.listing.in_span.Statement.{statement}
-use Rattle.cuts.proofs.listing.in_span.Tie as tie
+use Rattle.cuts.proofs.lister.in_span.Statement.{statement}
+use Rattle.cuts.proofs.lister.in_span.Tie as tie
 
 -- past the first test the cut is at least the lower bound, past the second at most the upper
 above-low : (c : tie.Else1) → covered (c .before .before .before .before .before .before .before .before .args .span .low .counts) (c .before .before .before .before .before .before .before .before .args .cut .counts) ≡ true

@@ -1,12 +1,11 @@
 -- `show`: what is written so far, and what is still to be shown.
-use mathlib.Core.Path.{_≡_, refl, sym, ap, _∙_}
-use mathlib.Core.Bool.{Bool, true, false, cond}
+use mathlib.Core.Path.{_≡_, ap}
+use mathlib.Core.Bool.{Bool, true, cond}
 use mathlib.Core.List.{List, [], _∷_}
-use Prim.Native.Nat.{ℕ, _+_, _-_, _*_, _≤_, _<_}
+use Prim.Native.Nat.{ℕ}
 use native.Mathlib.Omega.{arith}
 use borrow.Author.Tests.{not-true, not-false}
 use lib.ListN.{length}
-use lib.Seq.{sets, length-sets}
 use Rattle.model.specs.Lists.{keep}
 use Rattle.model.specs.Clocks.{clockAt}
 use Rattle.model.specs.Lexical.{lexBefore}
@@ -16,8 +15,8 @@ use Rattle.cuts.specs.Walk.{Standing}
 use Rattle.cuts.specs.Listing.{Pending, toShow}
 use Rattle.cuts.proofs.Walks.{walk-behind, walk-stands}
 use Rattle.cuts.proofs.Progress.{Progress, progress-start, same-long, progress-more, progress-ends, progress-full}
-use Rattle.cuts.proofs.listing.show.Statement.{statement}
-use Rattle.cuts.proofs.listing.show.Tie as tie
+use Rattle.cuts.proofs.lister.show.Statement.{statement}
+use Rattle.cuts.proofs.lister.show.Tie as tie
 
 abbrev cuts : List ℕ → Span → List (List ℕ)
 cuts clocks span = cutsBetween (clockAt clocks) (span .low .counts) (span .high .counts)

@@ -1,19 +1,28 @@
 // Writing the cuts that stand behind a place into a lent output.
+use crate::Listed;
+use crate::Listing;
 use crate::lex::Next;
 use crate::lex::Span;
 use crate::lex::next_cut;
+use crate::spans::interval_span;
 use model::Cut;
 use model::Place;
+use model::Position;
+use model::Record;
+use model::Refusal;
 use store::inner::known_covered;
 use store::inner::write_eight;
 ghost use mathlib.Core.Path.{_≡_};
 ghost use mathlib.Core.Bool.{_&&_};
-ghost use Prim.Native.Nat.{_≤_};
-ghost use lib.ListN.{length};
+ghost use mathlib.Core.List.{List};
+ghost use Prim.Native.Nat.{ℕ};
 ghost use Rattle.model.specs.Clocks.{clockAt, covered};
+ghost use Rattle.model.specs.Refusals.{numberOf};
+ghost use Rattle.model.specs.Store.{storeOf};
 ghost use Rattle.model.specs.Cuts.{closed, consistent, cutsBetween};
 ghost use Rattle.cuts.specs.Walk as walk;
-ghost use Rattle.cuts.specs.Listing.{CutReady, Pending, ShownOf};
+ghost use Rattle.cuts.specs.Listing.{CutReady, Pending, ShownOf, RefusedAs, ListedAs, listed, listOf, listIn};
+ghost use Rattle.cuts.specs.Outcomes.{SoundTrace};
 
 fn entries_covered(low: [u8; 8], high: [u8; 8]) -> bool
     ensures { λ r. ⌜ r ≡ covered low high ⌝ }
@@ -105,4 +114,82 @@ pub(crate) fn show(
         written += 1;
         next = next_cut(n, clocks, span, cut);
     }
+}
+
+pub(crate) fn refused_listing(why: Refusal, place: Place) -> Listed
+    ensures { λ r. ⌜ RefusedAs (numberOf why) place r ⌝ }
+{
+    Listed {
+        answer: Listing::Refused(why),
+        written: 0,
+        place,
+    }
+}
+
+fn listed_as(shown: Shown) -> Listed
+    ensures { λ r. ⌜ ListedAs (shown .written) (shown .place) (shown .more) r ⌝ }
+{
+    let place = shown.place;
+    if shown.more {
+        return Listed {
+            answer: Listing::More,
+            written: shown.written,
+            place,
+        };
+    }
+    Listed {
+        answer: Listing::Done,
+        written: shown.written,
+        place,
+    }
+}
+
+fn list_span(n: usize, clocks: &[u8], span: Span, place: Place, out: &mut [u8]) -> Listed
+    requires { ⌜ walk.Span n (now clocks) (span .low .counts) (span .high .counts) ⌝ }
+    ensures { λ r. ⌜ listed r (now (out .exit)) ≡ listOf (cutsBetween (clockAt (now (clocks .entry))) (span .low .counts) (span .high .counts)) (covered (span .low .counts) (place .cut .counts) && consistent (clockAt (now (clocks .entry))) (span .high .counts) (place .cut .counts)) place (now (out .entry)) ⌝ }
+{
+    let cut = place.cut;
+    if place.begun {
+        if !in_span(n, clocks, span, cut) {
+            return refused_listing(Refusal::PlaceOutside, place);
+        }
+        let next = next_cut(n, clocks, span, cut);
+        let shown = show(n, clocks, span, next, place, out);
+        return listed_as(shown);
+    }
+    let first = span.low;
+    let shown = show(
+        n,
+        clocks,
+        span,
+        Next {
+            found: true,
+            cut: first,
+        },
+        place,
+        out,
+    );
+    listed_as(shown)
+}
+
+pub(crate) fn list_interval(
+    record: Record,
+    clocks: &[u8],
+    order: &[u8],
+    position: Position,
+    place: Place,
+    out: &mut [u8],
+) -> Listed
+    requires { ⌜ SoundTrace «record» (now clocks) (now order) ⌝ }
+    ensures { λ r. ⌜ ((held : List ℕ) → listed r (now (out .exit)) ≡ listIn (storeOf «record» (now (clocks .entry)) held (now (order .entry))) (position .0) place (now (out .entry))) ⌝ }
+{
+    let p = position.0;
+    if record.events < p {
+        return refused_listing(Refusal::NoSuchPosition, place);
+    }
+    if out.len() < 8 {
+        return refused_listing(Refusal::ShortOutput, place);
+    }
+    let span = interval_span(clocks, order, p as usize);
+    list_span(record.tablets as usize, clocks, span, place, out)
 }

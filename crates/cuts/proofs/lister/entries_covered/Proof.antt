@@ -1,5 +1,5 @@
 -- `entries_covered`: the entries passed so far are covered; one that is not ends the loop.
-use mathlib.Core.Path.{_≡_, refl, sym, ap, _∙_}
+use mathlib.Core.Path.{_≡_, refl, sym}
 use mathlib.Core.Bool.{Bool, true}
 use mathlib.Core.List.{List}
 use Prim.Native.Nat.{ℕ, _-_, _≤_}
@@ -9,8 +9,8 @@ use lib.Dec.{leb}
 use Rattle.model.specs.Lists.{at, allBelow}
 use Rattle.model.specs.Clocks.{covered}
 use Rattle.model.proofs.Tests.{allBelow-more, allBelow-stop}
-use Rattle.cuts.proofs.listing.entries_covered.Statement.{statement}
-use Rattle.cuts.proofs.listing.entries_covered.Tie as tie
+use Rattle.cuts.proofs.lister.entries_covered.Statement.{statement}
+use Rattle.cuts.proofs.lister.entries_covered.Tie as tie
 
 abbrev entry : List ℕ → List ℕ → ℕ → Bool
 entry low high i = leb (at low i) (at high i)
