@@ -10,3 +10,4 @@ pub mod Firsts
 pub mod Answers
 pub mod Progress
 pub mod Listings
+pub mod Gathering

@@ -1,12 +1,12 @@
 -- Document 01, "Listing".
 use mathlib.Core.Path.{_≡_}
 use Prim.Native.Nat.{ℕ, _*_, _/_, _≤_, _<_}
-use mathlib.Core.Bool.{Bool, true, cond, not, _&&_}
+use mathlib.Core.Bool.{Bool, true, false, cond, not, _&&_}
 use mathlib.Core.List.{List, [], _∷_, _++_}
 use lib.Dec.{ltb, eqb}
 use lib.ListN.{length, take, drop}
 use Rattle.model.specs.declared.Place.{Place}
-use Rattle.model.specs.Lists.{at, keep}
+use Rattle.model.specs.Lists.{at, zeros, keep}
 use Rattle.model.specs.Refusals.{numberOf}
 use Rattle.model.specs.Clocks.{covered}
 use Rattle.model.specs.Store.{Store, clocksOf, storeRefusal}
@@ -16,6 +16,7 @@ use Rattle.cuts.specs.declared.lex.Next.{Next}
 use Rattle.cuts.specs.declared.Listing.{Listing}
 use Rattle.cuts.specs.declared.Listing.the-variants.{Done, More, Refused}
 use Rattle.cuts.specs.declared.Listed.{Listed}
+use Rattle.cuts.specs.declared.Gathered.{Gathered}
 use Rattle.cuts.specs.Walk.{Span, Standing}
 
 -- the clocks are of full size and each event that the cut names has a slot
@@ -132,3 +133,27 @@ listIn s p place out =
 abbrev pub listing : Store → ℕ → Place → List ℕ → ListOutcome
 listing s p place out =
     cond (eqb (storeRefusal s) 0) (listIn s p place out) (refusedListing (storeRefusal s) place out)
+
+-- "To gather a long list, the caller lends the part of its buffer behind the cuts already written." The whole of it: the
+-- interval's first cuts, all that fit, the rest of the output as it was, and whether all are there.
+pub record GatherOutcome : Type 0 where
+  pub refusal : ℕ
+  pub said : Said
+  pub count : ℕ
+  pub output : List ℕ
+
+abbrev pub gathered : Gathered → List ℕ → GatherOutcome
+gathered r output = record { refusal = listingNumber (r .answer); said = listingSaid (r .answer); count = r .written; output = output }
+
+-- a place not begun
+abbrev pub fresh : Place
+fresh = record { begun = false; cut = record { counts = zeros } }
+
+abbrev pub gathering : Store → ℕ → List ℕ → GatherOutcome
+gathering s p out =
+    record {
+      refusal = listing s p fresh out .refusal;
+      said = listing s p fresh out .said;
+      count = listing s p fresh out .count;
+      output = listing s p fresh out .output;
+    }

@@ -22,7 +22,7 @@ use model::Refusal;
 use model::Verdict;
 ghost use mathlib.Core.Path.{_≡_};
 ghost use Rattle.model.specs.Store.{storeOf};
-ghost use Rattle.cuts.specs.Listing.{listed, listing};
+ghost use Rattle.cuts.specs.Listing.{listed, listing, gathered, gathering};
 ghost use Rattle.cuts.specs.Outcomes.{counted, counting, asked, asking};
 
 // The number of cuts, or a refusal with 0.
@@ -101,5 +101,43 @@ pub fn list(
     match v {
         Verdict::Refused(why) => refused_listing(why, place),
         Verdict::Passed => list_interval(record, clocks, order, position, place, out),
+    }
+}
+
+// What a gathering answers: whether all cuts of the interval are there, and how many are.
+pub struct Gathered {
+    pub answer: Listing,
+    pub written: usize,
+}
+
+// The first cuts of an interval, all that fit, by one listing call after another, each lent the part of the output behind
+// the cuts already written.
+pub fn gather(
+    record: Record,
+    clocks: &[u8],
+    held: &[u16],
+    order: &[u8],
+    position: Position,
+    out: &mut [u8],
+) -> Gathered
+    ensures { λ r. ⌜ gathered r (now (out .exit)) ≡ gathering (storeOf «record» (now (clocks .entry)) (now (held .entry)) (now (order .entry))) (position .0) (now (out .entry)) ⌝ }
+{
+    let mut place = Place {
+        begun: false,
+        cut: Cut { counts: [0u8; 8] },
+    };
+    let mut written: usize = 0;
+    loop {
+        let from = 8 * written;
+        let part = list(record, clocks, held, order, position, place, &mut out[from..]);
+        written += part.written;
+        place = part.place;
+        let answer = part.answer;
+        let Listing::More = answer else {
+            return Gathered { answer, written };
+        };
+        if out.len() - 8 * written < 8 {
+            return Gathered { answer, written };
+        }
     }
 }
