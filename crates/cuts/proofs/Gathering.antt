@@ -1,10 +1,9 @@
 -- A listing fills what it is lent: where it says "more" there is no room for another cut, so that gathering ends.
 use mathlib.Core.Path.{_≡_, refl, sym, ap, ap₂, _∙_, subst}
 use mathlib.Core.Bool.{Bool, true, false, cond, not}
-use mathlib.Core.List.{List, [], _∷_, _++_, append-nil}
-use Prim.Native.Nat.{ℕ, _+_, _-_, _*_, _/_, _≤_, _<_}
+use mathlib.Core.List.{List, _++_, append-nil}
+use Prim.Native.Nat.{ℕ, _+_, _-_, _*_, _≤_, _<_}
 use native.Mathlib.Omega.{arith}
-use native.Mathlib.Nat.{zero-add}
 use borrow.Author.Tests.{ltb-true}
 use borrow.Rule.Slice.PartMut.{putMid}
 use lib.Dec.{ltb, eqb}
@@ -15,9 +14,7 @@ use Rattle.model.specs.Lists.{keep}
 use Rattle.model.specs.Store.{Store, storeRefusal}
 use Rattle.model.specs.Cuts.{interval}
 use Rattle.model.specs.Lexical.{lexBefore}
-use Rattle.cuts.specs.declared.Listing.{Listing}
 use Rattle.cuts.specs.declared.Listed.{Listed}
-use Rattle.cuts.specs.declared.Gathered.{Gathered}
 use Rattle.cuts.specs.Listing.{Said, done, more, nothing, room, ListOutcome, listingNumber, listingSaid, listed, refusedListing, shownFrom, listOf, inInterval, listIn, listing, GatherOutcome, gathered, fresh, gathering}
 
 -- what is said, told apart

@@ -11,3 +11,5 @@ pub mod Answers
 pub mod Progress
 pub mod Listings
 pub mod Gathering
+pub mod Unique
+pub mod Theorems

@@ -129,7 +129,15 @@ pub fn gather(
     let mut written: usize = 0;
     loop {
         let from = 8 * written;
-        let part = list(record, clocks, held, order, position, place, &mut out[from..]);
+        let part = list(
+            record,
+            clocks,
+            held,
+            order,
+            position,
+            place,
+            &mut out[from..],
+        );
         written += part.written;
         place = part.place;
         let answer = part.answer;

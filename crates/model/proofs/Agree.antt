@@ -48,7 +48,7 @@ consistent-moves clk other bound G agree c =
 agree-sym : (clk other : Clocks) (bound : List ℕ) → ClocksAgree clk other bound → ClocksAgree other clk bound
 agree-sym clk other bound agree e c = sym (agree e c)
 
-consistent-same : (clk other : Clocks) (bound G : List ℕ) → ClocksAgree clk other bound → consistent clk bound G ≡ consistent other bound G
+pub consistent-same : (clk other : Clocks) (bound G : List ℕ) → ClocksAgree clk other bound → consistent clk bound G ≡ consistent other bound G
 consistent-same clk other bound G agree =
     same-test (consistent clk bound G) (consistent other bound G)
     (λ t. holds-consistent other bound G (consistent-moves clk other bound G agree (consistent-holds clk bound G t)))
@@ -91,7 +91,7 @@ event-same order other q f =
     λ i. record { column = own i; number = count i }
 
 module _ (s r : Store) (snd : Sound s) where
-  gmin-same : (p : ℕ) → p ≤ s .events → AgreeTo p s r → gmin s p ≡ gmin r p
+  pub gmin-same : (p : ℕ) → p ≤ s .events → AgreeTo p s r → gmin s p ≡ gmin r p
   gmin-same zero h agree = refl
   gmin-same (suc q) h agree =
       agree .clocks (eventAt (s .order) q) (event-contained s snd q h)

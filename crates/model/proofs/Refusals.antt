@@ -55,6 +55,14 @@ verdict-back (Refused InputTooLong) = refl
 pub verdict-unique : (v w : Verdict) → verdictNumber v ≡ verdictNumber w → v ≡ w
 verdict-unique v w e = sym (verdict-back v) ∙ ap verdictOf e ∙ verdict-back w
 
+-- and a refusal by its own
+abbrev reason : Verdict → Refusal
+reason Passed = NoSuchTabletCount
+reason (Refused why) = why
+
+pub refusal-unique : (v w : Refusal) → numberOf v ≡ numberOf w → v ≡ w
+refusal-unique v w e = ap reason (verdict-unique (Refused v) (Refused w) e)
+
 pub number-positive : (why : Refusal) → 1 ≤ numberOf why
 number-positive NoSuchTabletCount = lit≤ tt
 number-positive ShortBuffer = lit≤ tt

@@ -1,13 +1,12 @@
 -- `gather`: each call is made with nothing written yet, since a listing that says "more" has filled the output.
 use mathlib.Core.Path.{_≡_, refl, sym, ap, ap₂, _∙_}
-use mathlib.Core.List.{List}
-use Prim.Native.Nat.{ℕ, _+_, _-_, _*_, _≤_, _<_}
+use Prim.Native.Nat.{_+_, _-_, _*_, _≤_}
 use native.Mathlib.Omega.{arith}
 use borrow.Author.Needs.{needs}
 use borrow.Rule.Slice.PartMut.{putMid}
-use lib.ListN.{length, take, drop}
+use lib.ListN.{length}
 use Rattle.model.specs.Lists.{zeros}
-use Rattle.model.specs.Store.{Store, storeOf}
+use Rattle.model.specs.Store.{storeOf}
 use Rattle.cuts.specs.Listing.{listed, listing, gathered, gathering, fresh, ListOutcome, listingSaid}
 use Rattle.cuts.proofs.Gathering.{listing-fills, part-whole, put-whole, gathered-is}
 use Rattle.cuts.proofs.gather.Statement.{statement}
