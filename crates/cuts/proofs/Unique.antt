@@ -15,9 +15,10 @@ use Rattle.cuts.specs.declared.Asked.{Asked}
 use Rattle.cuts.specs.declared.Listing.{Listing}
 use Rattle.cuts.specs.declared.Listing.the-variants.{Done, More, Refused as ListingRefused}
 use Rattle.cuts.specs.declared.Listed.{Listed}
+use Rattle.cuts.specs.declared.Moved.{Moved}
 use Rattle.cuts.specs.declared.Gathered.{Gathered}
 use Rattle.cuts.specs.Outcomes.{CountOutcome, counted, countIn, counting, AskOutcome, answerNumber, answerFound, asked, askIn, asking}
-use Rattle.cuts.specs.Listing.{Said, done, more, nothing, ListOutcome, listingNumber, listingSaid, listed, listing, GatherOutcome, gathered, gathering}
+use Rattle.cuts.specs.Listing.{Said, done, more, nothing, ListOutcome, listingNumber, listingSaid, listed, moved, listing, GatherOutcome, gathered, gathering}
 
 -- counting
 counted-unique : (c d : Counted) → counted c ≡ counted d → c ≡ d
@@ -76,6 +77,15 @@ list-unique s p place out a b first second m n =
     let same : listed a first ≡ listed b second = m ∙ sym n in
     let answers = listing-unique (a .answer) (b .answer) (ap (λ (o : ListOutcome). o .refusal) same) (ap (λ (o : ListOutcome). spoken (o .said)) same) in (
       (λ i. record { answer = answers i; written = ap (λ (o : ListOutcome). o .count) same i; place = ap (λ (o : ListOutcome). o .place) same i }),
+      ap (λ (o : ListOutcome). o .output) same,
+    )
+
+pub list-moving-unique : (s : Store) (p : ℕ) (place : Place) (out : List ℕ) (a b : Moved) (after behind : Place) (first second : List ℕ) → moved a after first ≡ listing s p place out → moved b behind second ≡ listing s p place out → (a ≡ b) × (after ≡ behind) × (first ≡ second)
+list-moving-unique s p place out a b after behind first second m n =
+    let same : moved a after first ≡ moved b behind second = m ∙ sym n in
+    let answers = listing-unique (a .answer) (b .answer) (ap (λ (o : ListOutcome). o .refusal) same) (ap (λ (o : ListOutcome). spoken (o .said)) same) in (
+      (λ i. record { answer = answers i; written = ap (λ (o : ListOutcome). o .count) same i }),
+      ap (λ (o : ListOutcome). o .place) same,
       ap (λ (o : ListOutcome). o .output) same,
     )
 

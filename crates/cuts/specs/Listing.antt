@@ -16,6 +16,7 @@ use Rattle.cuts.specs.declared.lex.Next.{Next}
 use Rattle.cuts.specs.declared.Listing.{Listing}
 use Rattle.cuts.specs.declared.Listing.the-variants.{Done, More, Refused}
 use Rattle.cuts.specs.declared.Listed.{Listed}
+use Rattle.cuts.specs.declared.Moved.{Moved}
 use Rattle.cuts.specs.declared.Gathered.{Gathered}
 use Rattle.cuts.specs.Walk.{Span, Standing}
 
@@ -82,6 +83,11 @@ listingSaid (Refused why) = nothing
 abbrev pub listed : Listed → List ℕ → ListOutcome
 listed r output =
     record { refusal = listingNumber (r .answer); said = listingSaid (r .answer); count = r .written; place = r .place; output = output }
+
+-- the same where the place was lent: what it is at exit
+abbrev pub moved : Moved → Place → List ℕ → ListOutcome
+moved r place output =
+    record { refusal = listingNumber (r .answer); said = listingSaid (r .answer); count = r .written; place = place; output = output }
 
 -- the answers by their parts
 pub record RefusedAs (number : ℕ) (place : Place) (r : Listed) : Type 0 where

@@ -22,7 +22,7 @@ use model::Refusal;
 use model::Verdict;
 ghost use mathlib.Core.Path.{_≡_};
 ghost use Rattle.model.specs.Store.{storeOf};
-ghost use Rattle.cuts.specs.Listing.{listed, listing, gathered, gathering};
+ghost use Rattle.cuts.specs.Listing.{listed, listing, moved, gathered, gathering};
 ghost use Rattle.cuts.specs.Outcomes.{counted, counting, asked, asking};
 
 // The number of cuts, or a refusal with 0.
@@ -101,6 +101,33 @@ pub fn list(
     match v {
         Verdict::Refused(why) => refused_listing(why, place),
         Verdict::Passed => list_interval(record, clocks, order, position, place, out),
+    }
+}
+
+// What a listing answers where its place was lent.
+pub struct Moved {
+    pub answer: Listing,
+    pub written: usize,
+}
+
+// The same through a lent place, which the call moves on. Programs and the gatherer use the call above, by value.
+pub fn list_moving(
+    record: Record,
+    clocks: &[u8],
+    held: &[u16],
+    order: &[u8],
+    position: Position,
+    place: &mut Place,
+    out: &mut [u8],
+) -> Moved
+    ensures { λ r. ⌜ moved r (now (place .exit)) (now (out .exit)) ≡ listing (storeOf «record» (now (clocks .entry)) (now (held .entry)) (now (order .entry))) (position .0) (now (place .entry)) (now (out .entry)) ⌝ }
+{
+    let from = *place;
+    let listed = list(record, clocks, held, order, position, from, out);
+    *place = listed.place;
+    Moved {
+        answer: listed.answer,
+        written: listed.written,
     }
 }
 
