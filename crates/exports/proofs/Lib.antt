@@ -1,0 +1,2 @@
+-- No second outcome satisfies a contract of this crate.
+pub mod Unique
