@@ -6,8 +6,8 @@ use model::Position;
 use model::Record;
 ghost use mathlib.Core.Path.{_≡_};
 ghost use Rattle.cuts.specs.Outcomes.{counting};
-ghost use Rattle.cuts.specs.Listing.{listing};
-ghost use Rattle.exports.specs.Calls.{storeFrom, notBegun};
+ghost use Rattle.cuts.specs.Listing.{listing, fresh};
+ghost use Rattle.exports.specs.Calls.{storeFrom};
 
 // The number of cuts of an interval, or 0 on a refusal.
 #[no_mangle]
@@ -37,8 +37,8 @@ pub extern "C" fn chongyeori_list(
     position: u16,
     out: &mut [u8],
 ) -> u64
-    ensures { λ r. ⌜ r ≡ listing (storeFrom tablets events (now (clocks .entry)) (now (held .entry)) (now (order .entry))) position notBegun (now (out .entry)) .count ⌝ }
-    ensures { λ _. ⌜ now (out .exit) ≡ listing (storeFrom tablets events (now (clocks .entry)) (now (held .entry)) (now (order .entry))) position notBegun (now (out .entry)) .output ⌝ }
+    ensures { λ r. ⌜ r ≡ listing (storeFrom tablets events (now (clocks .entry)) (now (held .entry)) (now (order .entry))) position fresh (now (out .entry)) .count ⌝ }
+    ensures { λ _. ⌜ now (out .exit) ≡ listing (storeFrom tablets events (now (clocks .entry)) (now (held .entry)) (now (order .entry))) position fresh (now (out .entry)) .output ⌝ }
 {
     let record = Record { tablets, events };
     let place = Place {
