@@ -1,0 +1,74 @@
+// The bytes of a line that is being written, kept by value until it is known whether the caller's output has room for them.
+ghost use mathlib.Core.Path.{_≡_};
+ghost use mathlib.Core.List.{[], _∷_};
+ghost use Prim.Native.Nat.{_+_, _≤_, _<_};
+ghost use lib.ListN.{length, take};
+ghost use lib.Seq.{sets};
+ghost use Rattle.lines.specs.Numbers.{decimal};
+ghost use Rattle.lines.specs.Pieces.{grown, emptyPiece};
+
+pub struct Piece {
+    pub length: usize,
+    pub bytes: [u8; 64],
+}
+
+pub fn empty_piece() -> Piece
+    ensures { λ r. ⌜ r ≡ emptyPiece ⌝ }
+{
+    Piece {
+        length: 0,
+        bytes: [0u8; 64],
+    }
+}
+
+pub fn put_byte(piece: Piece, byte: u8) -> Piece
+    requires { ⌜ piece .length < 64 ⌝ }
+    ensures { λ r. ⌜ r ≡ grown piece (byte ∷ []) ⌝ }
+{
+    let at = piece.length;
+    let mut bytes = piece.bytes;
+    bytes[at] = byte;
+    Piece {
+        length: at + 1,
+        bytes,
+    }
+}
+
+pub fn put_bytes(piece: Piece, text: &[u8]) -> Piece
+    requires { ⌜ piece .length + length (now text) ≤ 64 ⌝ }
+    ensures { λ r. ⌜ r ≡ grown piece (now (text .entry)) ⌝ }
+{
+    let mut longer = piece;
+    let mut i: usize = 0;
+    while i < text.len() {
+        longer = put_byte(longer, text[i]);
+        i += 1;
+    }
+    longer
+}
+
+// The last digit goes behind those of the tenth.
+pub fn put_number(piece: Piece, n: u64) -> Piece
+    requires { ⌜ piece .length + length (decimal n) ≤ 64 ⌝ }
+    ensures { λ r. ⌜ r ≡ grown piece (decimal n) ⌝ }
+{
+    if n < 10 {
+        return put_byte(piece, b'0' + n as u8);
+    }
+    let tens = put_number(piece, n / 10);
+    put_byte(tens, b'0' + (n % 10) as u8)
+}
+
+// The piece's bytes at the front of an output that has room for them; what lies behind stays.
+pub fn copy_out(piece: Piece, out: &mut [u8])
+    requires { ⌜ (piece .length ≤ 64) × (piece .length ≤ length (now out)) ⌝ }
+    ensures { λ r. ⌜ now (out .exit) ≡ sets (now (out .entry)) 0 (take (piece .length) (piece .bytes)) ⌝ }
+{
+    let length = piece.length;
+    let bytes = piece.bytes;
+    let mut i: usize = 0;
+    while i < length {
+        out[i] = bytes[i];
+        i += 1;
+    }
+}

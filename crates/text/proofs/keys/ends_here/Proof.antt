@@ -1,0 +1,38 @@
+-- `ends_here`: the key of the last line in the first line.
+use mathlib.Core.Path.{ap, _∙_}
+use Prim.Native.Nat.{ℕ}
+use borrow.Author.Needs.{needs}
+use lib.ListN.{take}
+use Rattle.lines.specs.Find.{startsWith}
+use Rattle.text.proofs.Lines.{line-lent}
+use Rattle.text.specs.Keys.{endsHere, eventsKey}
+use Rattle.text.proofs.keys.ends_here.Statement.{statement}
+use Rattle.text.proofs.keys.ends_here.Tie as tie
+
+line-length-requires : tie.Need-line-length-requires
+line-length-requires c κs = search needs
+
+slice-aggregate-starts-with : tie.Need-slice-aggregate-starts-with
+slice-aggregate-starts-with c = line-lent (c .before .before .before .args .text .now) (c .before .line-length .result) (c .before .line-length .ensures)
+
+slice-aggregate-starts-with-2 : tie.Need-slice-aggregate-starts-with-2
+slice-aggregate-starts-with-2 c = search needs
+
+starts-with-requires : tie.Need-starts-with-requires
+starts-with-requires c κs = search needs
+
+returns : tie.Need-returns
+unfolding endsHere
+returns c =
+    let a = c .before .before .before .before .before .args in
+    c .starts-with .ensures ∙ ap (λ (k : ℕ). startsWith eventsKey (take k (a .text .now))) (c .before .before .before .line-length .ensures)
+
+pub ends-here-spec : {M : Type 1} → statement M
+ends-here-spec =
+    tie.close
+    (tie.spec
+    line-length-requires
+    slice-aggregate-starts-with
+    slice-aggregate-starts-with-2
+    starts-with-requires
+    returns)

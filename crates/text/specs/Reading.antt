@@ -1,0 +1,108 @@
+-- What reading answers and leaves behind, for every text and every three buffers.
+use mathlib.Core.Path.{_≡_}
+use Prim.Native.Nat.{ℕ, zero, suc, _+_, _-_}
+use mathlib.Core.Bool.{cond}
+use mathlib.Core.List.{List}
+use lib.Dec.{ltb, eqb}
+use lib.ListN.{length, drop}
+use Rattle.model.specs.declared.Record.{Record}
+use Rattle.model.specs.Numbers.{tabletsFit}
+use Rattle.model.specs.Refusals.{verdictNumber}
+use Rattle.model.specs.Store.{Store, storeOf, fullSizes, storeRefusal}
+use Rattle.store.specs.Outcomes.{appending, AppendReady}
+use Rattle.lines.specs.Find.{restLines}
+use Rattle.text.specs.declared.events.EventLines.{EventLines}
+use Rattle.text.specs.declared.reading.ReadAnswer.{ReadAnswer}
+use Rattle.text.specs.declared.reading.Turn.{Turn}
+use Rattle.text.specs.Keys.{numberLine, endsHere, tabletsKey, eventsKey}
+use Rattle.text.specs.Events.{withNumber, lineBytes, eventLines}
+
+-- the refusal's number, 0 for none, its line, 0 where there is none to name, and the store at exit
+pub record ReadOutcome : Type 0 where
+  pub refusal : ℕ
+  pub line : ℕ
+  pub store : Store
+
+abbrev pub readOutcome : ReadAnswer → List ℕ → List ℕ → List ℕ → ReadOutcome
+readOutcome a clocks held order =
+    record { refusal = verdictNumber (a .verdict); line = a .line; store = storeOf (a .record) clocks held order }
+
+-- "A refusal keeps the events before it in store and record, and names the line"
+abbrev pub refused : ℕ → ℕ → Store → ReadOutcome
+refused number line s = record { refusal = number; line = line; store = s }
+
+-- "`events` is T and is the last line"; "bytes after `events`, are faulty lines"
+unfoldable pub ending : Store → ℕ → List ℕ → ReadOutcome
+ending s line text =
+    withNumber (numberLine eventsKey 65535 text) (refused 12 line s)
+    λ count. cond (eqb count (s .events))
+    (cond (ltb (lineBytes text) (length text)) (refused 12 (line + 1) s) (record { refusal = 0; line = 0; store = s }))
+    (refused 12 line s)
+
+-- the three lines of an event, offered to the store: a faulty one is named itself, a refused event by its `held` line
+pub record TurnOutcome : Type 0 where
+  pub refusal : ℕ
+  pub line : ℕ
+  pub used : ℕ
+  pub store : Store
+
+abbrev pub offered : Store → EventLines → TurnOutcome
+offered s e =
+    cond (eqb (e .fault) 0)
+    (record { refusal = appending s (e .event) .refusal; line = 2; used = e .used; store = appending s (e .event) .store })
+    (record { refusal = 12; line = e .fault - 1; used = 0; store = s })
+
+unfoldable pub turn : Store → List ℕ → TurnOutcome
+turn s text = offered s (eventLines (s .tablets) text)
+
+-- Behind the `tablets` line: event after event, up to the `events` line
+abbrev pub readFrom : ℕ → Store → ℕ → List ℕ → ReadOutcome
+readFrom zero s line text = refused 12 line s
+readFrom (suc turns) s line text =
+    cond (endsHere text) (ending s line text)
+    (cond (eqb (turn s text .refusal) 0)
+    (readFrom turns (turn s text .store) (line + 3) (drop (turn s text .used) text))
+    (refused (turn s text .refusal) (line + turn s text .line) (turn s text .store)))
+
+-- A store takes at most 2,032 events, so as many turns as it has room for and one more are enough for every text: that one
+-- can only be at the `events` line or a refusal.
+unfoldable pub readOn : Store → ℕ → List ℕ → ReadOutcome
+readOn s line text = readFrom (2033 - s .events) s line text
+
+-- "for reading without an accepted `tablets` line as (0, 0)"; "Reading opens a fresh record", (n, 0)
+abbrev pub nothingRead : List ℕ → List ℕ → List ℕ → Store
+nothingRead clocks held order = record { tablets = 0; events = 0; clocks = clocks; held = held; order = order }
+
+abbrev pub freshRecord : ℕ → Record
+freshRecord n = record { tablets = n; events = 0 }
+
+-- "Reading gives 2 first (line 0), then goes line by line": 12 for a faulty `tablets` line, 1 for a number of tablets that
+-- opening refuses, then the events
+unfoldable pub reading : List ℕ → List ℕ → List ℕ → List ℕ → ReadOutcome
+reading text clocks held order =
+    cond (fullSizes clocks held order)
+    (withNumber (numberLine tabletsKey 255 text) (refused 12 1 (nothingRead clocks held order))
+    λ n. cond (tabletsFit n) (readOn (storeOf (freshRecord n) clocks held order) 2 (restLines text))
+    (refused 1 1 (nothingRead clocks held order)))
+    (refused 2 0 (nothingRead clocks held order))
+
+-- What the inner functions promise.
+
+-- the answer to the last line, whatever the buffers hold
+abbrev pub EndRead : Record → ℕ → List ℕ → ReadAnswer → Type 0
+EndRead r line text a =
+    (clocks held order : List ℕ) → readOutcome a clocks held order ≡ ending (storeOf r clocks held order) line text
+
+abbrev pub turned : Turn → List ℕ → List ℕ → List ℕ → TurnOutcome
+turned t clocks held order =
+    record { refusal = verdictNumber (t .verdict); line = t .line; used = t .used; store = storeOf (t .record) clocks held order }
+
+-- the outcome of a turn, and that another may follow
+pub record TurnTaken (s : Store) (text : List ℕ) (outcome : TurnOutcome) (tallies : List ℕ) : Type 0 where
+  pub outcome-is : outcome ≡ turn s text
+  pub ready : AppendReady (outcome .store) tallies
+
+-- what reading may assume behind the `tablets` line: a sound store without events
+pub record ReadReady (s : Store) : Type 0 where
+  pub refusal : storeRefusal s ≡ 0
+  pub events : s .events ≡ 0
