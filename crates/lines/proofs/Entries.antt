@@ -142,7 +142,7 @@ pub data Small : List ℕ → Type 0 where
   none-left : Small []
   and-small : {v : ℕ} {vs : List ℕ} → v ≤ 255 → Small vs → Small (v ∷ vs)
 
-decimal-lacks : (byte v : ℕ) → byte < 48 → find byte (decimal v) ≡ length (decimal v)
+pub decimal-lacks : (byte v : ℕ) → byte < 48 → find byte (decimal v) ≡ length (decimal v)
 decimal-lacks byte v h = digits-lack byte (decimal v) h (decimal-digits v)
 
 pub entries-written : (v : ℕ) (vs : List ℕ) → Small (v ∷ vs) → entries (suc (length vs)) (commaList (v ∷ vs)) ≡ some (v ∷ vs)

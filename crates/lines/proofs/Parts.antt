@@ -162,7 +162,7 @@ key-and-rest (k ∷ ks) (b ∷ bs) e =
     and-both true q x = (refl, x)
     and-both false q x = absurd (false≢true x)
 
-starts-key : (key value : List ℕ) → startsWith key (key ++ value) ≡ true
+pub starts-key : (key value : List ℕ) → startsWith key (key ++ value) ≡ true
 starts-key [] value = refl
 starts-key (k ∷ ks) value = ap (λ (t : Bool). t && startsWith ks (ks ++ value)) (eq-eqb k k refl) ∙ starts-key ks value
 

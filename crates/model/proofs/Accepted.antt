@@ -29,7 +29,7 @@ use Rattle.model.proofs.Sound.{Sound, Full, storable}
 use Rattle.model.proofs.Agree.{ClocksAgree, known-same, tally-same, tallies-same, event-same}
 
 -- what an event may rest on is the clocks of the events before it
-follows-moves : (n : ℕ) (clk other : Clocks) (tal : List ℕ) (i : ℕ) (clock : List ℕ) → ClocksAgree clk other tal → Follows n clk tal i clock → Follows n other tal i clock
+pub follows-moves : (n : ℕ) (clk other : Clocks) (tal : List ℕ) (i : ℕ) (clock : List ℕ) → ClocksAgree clk other tal → Follows n clk tal i clock → Follows n other tal i clock
 follows-moves n clk other tal i clock agree f =
     record {
       positive = f .positive;

@@ -1,34 +1,34 @@
 -- The way back: a line that was read is the line that would be written, and so is the whole text.
 use mathlib.Core.Path.{_≡_, refl, sym, ap, ap₂, _∙_, subst}
 use mathlib.Core.Logic.{_≢_}
-use mathlib.Core.Bool.{Bool, true, false, true≢false, cond}
+use mathlib.Core.Bool.{Bool, true, false, cond}
 use mathlib.Core.List.{List, [], _∷_, _++_, append-assoc, append-nil}
 use Prim.Native.Nat.{ℕ, zero, suc, _+_, _-_, _≤_, _<_}
 use native.Mathlib.Omega.{arith}
 use native.Mathlib.Numerals.{add-one}
 use native.Mathlib.Decide.{ℕ-discrete, decLt}
-use borrow.Author.Tests.{eq-eqb, eqb-true, eqb-false}
+use borrow.Author.Tests.{eqb-true, eqb-false}
 use lib.Dec.{eqb}
-use lib.ListN.{length, getD, take, drop, length-drop, drop-of-length-le}
-use lib.Seq.{drop-drop, getD-set-same, take-all, take-suc, ext-getD, length-take-le, getD-take}
+use lib.ListN.{length, getD, take, drop, drop-of-length-le}
+use lib.Seq.{drop-drop, getD-set-same, ext-getD, length-take-le, getD-take}
 use Rattle.model.specs.declared.Event.{Event}
 use Rattle.model.specs.Lists.{at, eight}
-use Rattle.model.specs.Numbers.{tabletsFit, column}
-use Rattle.model.specs.Clocks.{EventName, clockOf}
+use Rattle.model.specs.Numbers.{tabletsFit}
+use Rattle.model.specs.Clocks.{clockOf}
 use Rattle.model.specs.Follow.{tallies, eventAt}
-use Rattle.model.specs.Store.{Store, storeOf, fullSizes, clocksOf, heldOf, talliesOf, storeRefusal, accepted, eventRefusal}
+use Rattle.model.specs.Store.{Store, storeOf, fullSizes, clocksOf, heldOf, storeRefusal, accepted, eventRefusal}
 use Rattle.model.specs.Cuts.{Contains}
 use Rattle.model.specs.Agree.{AgreeTo}
 use Rattle.model.proofs.Entries.{at-eight, length-eight}
-use Rattle.model.proofs.Sound.{Sound, Full, event-contained}
+use Rattle.model.proofs.Sound.{event-contained}
 use Rattle.model.proofs.Agree.{event-same}
-use Rattle.model.proofs.Accepted.{newName, room-for-one, accepted-agrees, event-written, clock-stored, held-stored, still-contained}
+use Rattle.model.proofs.Accepted.{room-for-one, accepted-agrees, event-written, clock-stored, held-stored, still-contained}
 use Rattle.store.proofs.Ready.{tested-sound, tested-full}
 use Rattle.store.proofs.Theorems.{accepted-stays-sound}
 use Rattle.lines.specs.declared.numbers.Number.{Number}
 use Rattle.lines.specs.declared.numbers.Number.the-variants.{Value, Faulty}
 use Rattle.lines.specs.Numbers.{decimal}
-use Rattle.lines.specs.Find.{lineLength, firstLine, restLines, valueBehind}
+use Rattle.lines.specs.Find.{firstLine, restLines, valueBehind}
 use Rattle.lines.specs.Lists.{commaList}
 use Rattle.lines.proofs.Decimals.{number-back}
 use Rattle.lines.proofs.Parts.{line-parted, line-keyed, value-some}
@@ -36,8 +36,8 @@ use Rattle.lines.proofs.Entries.{listed-back, back-filled}
 use Rattle.text.specs.declared.events.EventLines.{EventLines}
 use Rattle.text.specs.Keys.{numberLine, clockLine, endsHere, tabletsKey, tabletKey, clockKey, heldKey, eventsKey}
 use Rattle.text.specs.Events.{lineBytes, eventLines}
-use Rattle.text.specs.Reading.{ReadOutcome, refused, ending, TurnOutcome, turn, readFrom, readOn, reading, freshRecord}
-use Rattle.text.specs.Writing.{keyLine, clockText, eventText, pieceText, piecesTo, textOf}
+use Rattle.text.specs.Reading.{ReadOutcome, refused, ending, turn, readFrom, readOn, reading, freshRecord}
+use Rattle.text.specs.Writing.{keyLine, clockText, eventText, piecesTo, textOf}
 use Rattle.text.proofs.Lines.{number-filled}
 use Rattle.text.proofs.Turns.{EventBack, event-back, TurnPassed, turn-passed, ending-fault, ending-other, ending-more, ending-done}
 use Rattle.text.proofs.Opening.{fresh-store, reading-short, reading-faulty, reading-width, reading-goes}

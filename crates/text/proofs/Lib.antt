@@ -6,3 +6,5 @@ pub mod Unique
 pub mod Putting
 pub mod Pieces
 pub mod Back
+pub mod Again
+pub mod Theorems

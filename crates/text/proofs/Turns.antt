@@ -135,15 +135,12 @@ pub record EventBack (n : ℕ) (text : List ℕ) : Type 0 where
 abbrev heldFor : ℕ → ℕ → List ℕ → List ℕ → ℕ → EventLines
 heldFor used tablet clock text held = record { fault = 0; used = used + lineBytes text; event = record { tablet = record { 0 = tablet }; clock = clock; held = held } }
 
-module _ (n : ℕ) (text : List ℕ) (whole : eventLines n text .fault ≡ 0) where
+module _ (n : ℕ) (text : List ℕ) where
   abbrev second : List ℕ
   second = restLines text
 
   abbrev third : List ℕ
   third = restLines (restLines text)
-
-  no-fault : (k : ℕ) → 1 ≤ k → eventLines n text ≡ faultyEvent k → ⊥
-  no-fault k h e = omega (arith, ap (λ (l : EventLines). l .fault) e)
 
   tablet-line : eventLines n text ≡ withNumber (numberLine tabletKey 255 text) (faultyEvent 1) (λ t. clockPart n (lineBytes text) t second)
   unfolding eventLines
@@ -153,41 +150,42 @@ module _ (n : ℕ) (text : List ℕ) (whole : eventLines n text .fault ≡ 0) wh
   unfolding heldPart
   held-line used tablet clock = refl
 
-  by-held : (t h : ℕ) → numberLine tabletKey 255 text ≡ Value t → clockLine n second .fits ≡ true → numberLine heldKey 65535 third ≡ Value h → EventBack n text
-  by-held t h et fits eh =
-      record {
-        tablet = t;
-        held = h;
-        tablet-is = et;
-        clock-fits = fits;
-        held-is = eh;
-        is = tablet-line
-            ∙ with-value (faultyEvent 1) (λ k. clockPart n (lineBytes text) k second) (numberLine tabletKey 255 text) t et
-            ∙ clock-then n (lineBytes text) t second fits
-            ∙ held-line (lineBytes text + lineBytes second) t (clockLine n second .values)
-            ∙ with-value (faultyEvent 3) (heldFor (lineBytes text + lineBytes second) t (clockLine n second .values) third) (numberLine heldKey 65535 third) h eh;
-      }
-
-  by-clock : (t : ℕ) → numberLine tabletKey 255 text ≡ Value t → (b : Bool) → clockLine n second .fits ≡ b → (y : Number) → numberLine heldKey 65535 third ≡ y → EventBack n text
-  by-clock t et true fits (Value h) eh = by-held t h et fits eh
-  by-clock t et true fits Faulty eh =
-      absurd (no-fault 3 (omega arith)
-      (tablet-line
+  pub event-said : (t h : ℕ) → numberLine tabletKey 255 text ≡ Value t → clockLine n second .fits ≡ true → numberLine heldKey 65535 third ≡ Value h → eventLines n text ≡ record { fault = 0; used = lineBytes text + lineBytes second + lineBytes third; event = record { tablet = record { 0 = t }; clock = clockLine n second .values; held = h } }
+  event-said t h et fits eh =
+      tablet-line
       ∙ with-value (faultyEvent 1) (λ k. clockPart n (lineBytes text) k second) (numberLine tabletKey 255 text) t et
       ∙ clock-then n (lineBytes text) t second fits
       ∙ held-line (lineBytes text + lineBytes second) t (clockLine n second .values)
-      ∙ with-fault (faultyEvent 3) (heldFor (lineBytes text + lineBytes second) t (clockLine n second .values) third) (numberLine heldKey 65535 third) eh))
+      ∙ with-value (faultyEvent 3) (heldFor (lineBytes text + lineBytes second) t (clockLine n second .values) third) (numberLine heldKey 65535 third) h eh
+
+  by-held : (t h : ℕ) → numberLine tabletKey 255 text ≡ Value t → clockLine n second .fits ≡ true → numberLine heldKey 65535 third ≡ Value h → EventBack n text
+  by-held t h et fits eh =
+      record { tablet = t; held = h; tablet-is = et; clock-fits = fits; held-is = eh; is = event-said t h et fits eh }
+
+module _ (n : ℕ) (text : List ℕ) (whole : eventLines n text .fault ≡ 0) where
+  no-fault : (k : ℕ) → 1 ≤ k → eventLines n text ≡ faultyEvent k → ⊥
+  no-fault k h e = omega (arith, ap (λ (l : EventLines). l .fault) e)
+
+  by-clock : (t : ℕ) → numberLine tabletKey 255 text ≡ Value t → (b : Bool) → clockLine n (restLines text) .fits ≡ b → (y : Number) → numberLine heldKey 65535 (restLines (restLines text)) ≡ y → EventBack n text
+  by-clock t et true fits (Value h) eh = by-held n text t h et fits eh
+  by-clock t et true fits Faulty eh =
+      absurd (no-fault 3 (omega arith)
+      (tablet-line n text
+      ∙ with-value (faultyEvent 1) (λ k. clockPart n (lineBytes text) k (restLines text)) (numberLine tabletKey 255 text) t et
+      ∙ clock-then n (lineBytes text) t (restLines text) fits
+      ∙ held-line n text (lineBytes text + lineBytes (restLines text)) t (clockLine n (restLines text) .values)
+      ∙ with-fault (faultyEvent 3) (heldFor (lineBytes text + lineBytes (restLines text)) t (clockLine n (restLines text) .values) (restLines (restLines text))) (numberLine heldKey 65535 (restLines (restLines text))) eh))
   by-clock t et false fits y eh =
       absurd (no-fault 2 (omega arith)
-      (tablet-line
-      ∙ with-value (faultyEvent 1) (λ k. clockPart n (lineBytes text) k second) (numberLine tabletKey 255 text) t et
-      ∙ no-clock n (lineBytes text) t second fits))
+      (tablet-line n text
+      ∙ with-value (faultyEvent 1) (λ k. clockPart n (lineBytes text) k (restLines text)) (numberLine tabletKey 255 text) t et
+      ∙ no-clock n (lineBytes text) t (restLines text) fits))
 
   by-tablet : (x : Number) → numberLine tabletKey 255 text ≡ x → EventBack n text
-  by-tablet (Value t) et = by-clock t et (clockLine n second .fits) refl (numberLine heldKey 65535 third) refl
+  by-tablet (Value t) et = by-clock t et (clockLine n (restLines text) .fits) refl (numberLine heldKey 65535 (restLines (restLines text))) refl
   by-tablet Faulty et =
       absurd (no-fault 1 (omega arith)
-      (tablet-line ∙ with-fault (faultyEvent 1) (λ k. clockPart n (lineBytes text) k second) (numberLine tabletKey 255 text) et))
+      (tablet-line n text ∙ with-fault (faultyEvent 1) (λ k. clockPart n (lineBytes text) k (restLines text)) (numberLine tabletKey 255 text) et))
 
   pub event-back : EventBack n text
   event-back = by-tablet (numberLine tabletKey 255 text) refl
@@ -198,10 +196,10 @@ module _ (n : ℕ) (text : List ℕ) (whole : eventLines n text .fault ≡ 0) wh
       let b = event-back in
       let used = ap (λ (l : EventLines). l .used) (b .is) in
       let first = number-inside tabletKey 255 text (b .tablet) (b .tablet-is) in
-      let next = clock-inside n second (b .clock-fits) in
-      let last = number-inside heldKey 65535 third (b .held) (b .held-is) in
+      let next = clock-inside n (restLines text) (b .clock-fits) in
+      let last = number-inside heldKey 65535 (restLines (restLines text)) (b .held) (b .held-is) in
       let long = length-drop (lineBytes text) text in
-      let longer = length-drop (lineBytes second) second in
+      let longer = length-drop (lineBytes (restLines text)) (restLines text) in
       (omega (arith, used), omega (arith, used, first, next, last, long, longer))
 
 -- a turn that passed: the event was accepted
