@@ -3,7 +3,7 @@ use crate::keys::HELD;
 use crate::keys::TABLET;
 use crate::keys::clock_line;
 use crate::keys::number_line;
-use lines::find::line_length;
+use crate::reader::first_line;
 use lines::numbers::Number;
 use model::Event;
 use model::Tablet;
@@ -40,7 +40,7 @@ fn read_held(text: &[u8], used: usize, tablet: u8, clock: [u8; 8]) -> EventLines
     let Number::Value(held) = number_line(text, &HELD, 65535) else {
         return faulty_event(3);
     };
-    let end = line_length(text);
+    let end = first_line(text);
     EventLines {
         fault: 0,
         used: used + (end + 1),
@@ -60,7 +60,7 @@ fn read_clock(text: &[u8], n: usize, used: usize, tablet: u8) -> EventLines
     if !listed.fits {
         return faulty_event(2);
     }
-    let next = line_length(text) + 1;
+    let next = first_line(text) + 1;
     let clock = listed.values;
     read_held(&text[next..], used + next, tablet, clock)
 }
@@ -71,6 +71,6 @@ pub(crate) fn read_event(text: &[u8], n: usize) -> EventLines
     let Number::Value(tablet) = number_line(text, &TABLET, 255) else {
         return faulty_event(1);
     };
-    let next = line_length(text) + 1;
+    let next = first_line(text) + 1;
     read_clock(&text[next..], n, next, tablet as u8)
 }

@@ -1,5 +1,5 @@
 // The fixed bytes of the trace text's lines, matched by the reader and written by the writer.
-use lines::find::line_length;
+use crate::reader::first_line;
 use lines::find::starts_with;
 use lines::find::value;
 use lines::lists::Listed;
@@ -23,7 +23,7 @@ pub const EVENTS: [u8; 7] = *b"events=";
 pub(crate) fn number_line(text: &[u8], key: &[u8], limit: u32) -> Number
     ensures { λ r. ⌜ r ≡ numberLine (now (key .entry)) limit (now (text .entry)) ⌝ }
 {
-    let end = line_length(text);
+    let end = first_line(text);
     let behind = value(&text[..end], key);
     read_number(behind, limit)
 }
@@ -32,7 +32,7 @@ pub(crate) fn number_line(text: &[u8], key: &[u8], limit: u32) -> Number
 pub(crate) fn clock_line(text: &[u8], n: usize) -> Listed
     ensures { λ r. ⌜ r ≡ clockLine n (now (text .entry)) ⌝ }
 {
-    let end = line_length(text);
+    let end = first_line(text);
     let behind = value(&text[..end], &CLOCK);
     read_list(behind, n)
 }
@@ -41,6 +41,6 @@ pub(crate) fn clock_line(text: &[u8], n: usize) -> Listed
 pub(crate) fn ends_here(text: &[u8]) -> bool
     ensures { λ r. ⌜ r ≡ endsHere (now (text .entry)) ⌝ }
 {
-    let end = line_length(text);
+    let end = first_line(text);
     starts_with(&text[..end], &EVENTS)
 }

@@ -1,18 +1,19 @@
 // The trace text: a text is read into the caller's three buffers, and a store is written as text, piece by piece.
 mod events;
 mod keys;
+pub mod reader;
 pub mod reading;
 mod writing;
 
 use keys::TABLETS;
 use keys::number_line;
-use lines::find::line_length;
 use lines::numbers::Number;
 use lines::pieces::copy_out;
 use model::Position;
 use model::Record;
 use model::Refusal;
 use model::Verdict;
+use reader::first_line;
 use reading::ReadAnswer;
 use reading::read_events;
 use reading::refused_at;
@@ -47,7 +48,7 @@ pub fn read(text: &[u8], clocks: &mut [u8], held: &mut [u16], order: &mut [u8]) 
         return refused_at(Refusal::NoSuchTabletCount, 1, none);
     };
     let fresh = opened.record;
-    let rest = line_length(text) + 1;
+    let rest = first_line(text) + 1;
     read_events(&text[rest..], fresh, clocks, held, order)
 }
 

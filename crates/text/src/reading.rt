@@ -4,7 +4,7 @@ use crate::events::read_event;
 use crate::keys::EVENTS;
 use crate::keys::ends_here;
 use crate::keys::number_line;
-use lines::find::line_length;
+use crate::reader::first_line;
 use lines::numbers::Number;
 use model::Record;
 use model::Refusal;
@@ -47,7 +47,7 @@ fn read_end(text: &[u8], line: usize, record: Record) -> ReadAnswer
     if count != record.events as u32 {
         return refused_at(Refusal::FaultyLine, line, record);
     }
-    if line_length(text) + 1 < text.len() {
+    if first_line(text) + 1 < text.len() {
         return refused_at(Refusal::FaultyLine, line + 1, record);
     }
     ReadAnswer {

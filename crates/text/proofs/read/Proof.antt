@@ -32,8 +32,8 @@ count-is c = sym (c .before .before .before .number-line .ensures) ∙ c .before
 inside : (c : tie.After-known-told) → lineLength (c .before .before .before .before .before .before .before .before .before .before .before .before .before .before .before .args .text .now) < length (c .before .before .before .before .before .before .before .before .before .before .before .before .before .before .before .args .text .now)
 inside c = number-inside tabletsKey 255 (c .before .before .before .before .before .before .before .before .before .before .before .before .before .before .before .args .text .now) (c .before .n .given .0 .0) (count-is c)
 
-next-fits : (c : tie.After-line-length) → c .line-length .result + 1 ≤ length (c .before .before .before .before .before .before .before .before .before .before .before .before .before .before .before .before .before .before .before .before .args .text .now)
-next-fits c = omega (arith, c .line-length .ensures, inside (c .before .before .before .before .before))
+next-fits : (c : tie.After-first-line) → c .first-line .result + 1 ≤ length (c .before .before .before .before .before .before .before .before .before .before .before .before .before .before .before .before .before .before .before .before .args .text .now)
+next-fits c = omega (arith, c .first-line .ensures, inside (c .before .before .before .before .before))
 
 width-fits : (c : tie.After-enum-told4) → tabletsFit (c .before .before .before .before .n .given .0 .0) ≡ true
 width-fits c = opened-fits (c .before .before .before .before .n .given .0 .0) (c .before .before .«open» .result) (c .before .before .«open» .ensures) (passed-zero (c .before .before .«open» .result .verdict) _ refl (c .enum-told4 .given .1))
@@ -125,11 +125,11 @@ returns-3 c =
     answer-refused (c .refused-at3 .result) NoSuchTabletCount 1 nothing (c .before .before .before .before .before .before .before .before .before .before .before .before .before .before .before .before .before .before .before .args .clocks .now) (c .before .before .before .before .before .before .before .before .before .before .before .before .before .before .before .before .before .before .before .args .held .now) (c .before .before .before .before .before .before .before .before .before .before .before .before .before .before .before .before .before .before .before .args .order .now) (c .refused-at3 .ensures)
     ∙ sym (reading-width (c .before .before .before .before .before .before .before .before .before .before .before .before .before .before .before .before .before .before .before .args .text .now) (c .before .before .before .before .before .before .before .before .before .before .before .before .before .before .before .before .before .before .before .args .clocks .now) (c .before .before .before .before .before .before .before .before .before .before .before .before .before .before .before .before .before .before .before .args .held .now) (c .before .before .before .before .before .before .before .before .before .before .before .before .before .before .before .before .before .before .before .args .order .now) (full (c .before .before .before .before .before .before .before .before .before)) (c .before .before .before .before .before .n .given .0 .0) (count-is (c .before .before .before .before)) (opened-not (c .before .before .before .before .before .n .given .0 .0) (c .before .before .before .«open» .result) (c .before .before .before .«open» .ensures) (refused-some (c .before .before .before .«open» .result .verdict) _ _ refl (c .before .enum-told5 .given .1))))
 
-line-length-requires : tie.Need-line-length-requires
-line-length-requires c κs = search needs
+first-line-requires : tie.Need-first-line-requires
+first-line-requires c κs = search needs
 
 add-rest : tie.Need-add-rest
-add-rest c = omega (arith, c .line-length .ensures, inside (c .before .before .before .before .before))
+add-rest c = omega (arith, c .first-line .ensures, inside (c .before .before .before .before .before))
 
 sub-read-events : tie.Need-sub-read-events
 sub-read-events c = next-fits (c)
@@ -155,7 +155,7 @@ same-length-12 c = search needs
 returns-4 : tie.Need-returns-4
 returns-4 c =
     c .before .before .before .before .before .before .read-events .ensures
-    ∙ reading-rest (c .before .before .before .before .before .before .before .before .before .before .before .before .before .before .before .before .before .before .before .before .before .before .before .before .before .before .before .before .before .before .before .args .text .now) (c .before .before .before .before .before .before .before .before .before .before .before .before .before .before .before .before .before .before .before .before .before .before .before .before .before .before .before .before .before .before .before .args .clocks .now) (c .before .before .before .before .before .before .before .before .before .before .before .before .before .before .before .before .before .before .before .before .before .before .before .before .before .before .before .before .before .before .before .args .held .now) (c .before .before .before .before .before .before .before .before .before .before .before .before .before .before .before .before .before .before .before .before .before .before .before .before .before .before .before .before .before .before .before .args .order .now) (full (c .before .before .before .before .before .before .before .before .before .before .before .before .before .before .before .before .before .before .before .before .before)) (c .before .before .before .before .before .before .before .before .before .before .before .before .before .before .before .before .before .n .given .0 .0) (count-is (c .before .before .before .before .before .before .before .before .before .before .before .before .before .before .before .before)) (c .before .before .before .before .before .before .before .before .before .before .before .before .before .before .before .«open» .result .«record») (c .before .before .before .before .before .before .before .before .before .before .before .line-length .result) (width-fits (c .before .before .before .before .before .before .before .before .before .before .before .before .before)) (fresh-is (c .before .before .before .before .before .before .before .before .before .before .before .before .before)) (c .before .before .before .before .before .before .before .before .before .before .before .line-length .ensures)
+    ∙ reading-rest (c .before .before .before .before .before .before .before .before .before .before .before .before .before .before .before .before .before .before .before .before .before .before .before .before .before .before .before .before .before .before .before .args .text .now) (c .before .before .before .before .before .before .before .before .before .before .before .before .before .before .before .before .before .before .before .before .before .before .before .before .before .before .before .before .before .before .before .args .clocks .now) (c .before .before .before .before .before .before .before .before .before .before .before .before .before .before .before .before .before .before .before .before .before .before .before .before .before .before .before .before .before .before .before .args .held .now) (c .before .before .before .before .before .before .before .before .before .before .before .before .before .before .before .before .before .before .before .before .before .before .before .before .before .before .before .before .before .before .before .args .order .now) (full (c .before .before .before .before .before .before .before .before .before .before .before .before .before .before .before .before .before .before .before .before .before)) (c .before .before .before .before .before .before .before .before .before .before .before .before .before .before .before .before .before .n .given .0 .0) (count-is (c .before .before .before .before .before .before .before .before .before .before .before .before .before .before .before .before)) (c .before .before .before .before .before .before .before .before .before .before .before .before .before .before .before .«open» .result .«record») (c .before .before .before .before .before .before .before .before .before .before .before .first-line .result) (width-fits (c .before .before .before .before .before .before .before .before .before .before .before .before .before)) (fresh-is (c .before .before .before .before .before .before .before .before .before .before .before .before .before)) (c .before .before .before .before .before .before .before .before .before .before .before .first-line .ensures)
 
 pub read-spec : {M : Type 1} → statement M
 read-spec =
@@ -187,7 +187,7 @@ read-spec =
     same-length-8
     same-length-9
     returns-3
-    line-length-requires
+    first-line-requires
     add-rest
     sub-read-events
     part-read-events-start

@@ -18,8 +18,8 @@ tablet-is c = sym (c .before .before .before .number-line .ensures) ∙ c .befor
 inside : (c : tie.After-known-told) → lineLength (c .before .before .before .before .before .before .args .text .now) < length (c .before .before .before .before .before .before .args .text .now)
 inside c = number-inside tabletKey 255 (c .before .before .before .before .before .before .args .text .now) (c .before .tablet .given .0 .0) (tablet-is c)
 
-next-fits : (c : tie.After-line-length) → c .line-length .result + 1 ≤ length (c .before .before .before .before .before .before .before .args .text .now)
-next-fits c = omega (arith, c .line-length .ensures, inside (c .before))
+next-fits : (c : tie.After-first-line) → c .first-line .result + 1 ≤ length (c .before .before .before .before .before .before .before .args .text .now)
+next-fits c = omega (arith, c .first-line .ensures, inside (c .before))
 
 slice-aggregate-number-line : tie.Need-slice-aggregate-number-line
 slice-aggregate-number-line c = search needs
@@ -40,11 +40,11 @@ returns : tie.Need-returns
 unfolding eventLines
 returns c = c .faulty-event .ensures ∙ sym (with-fault _ _ _ (sym (c .before .before .before .number-line .ensures) ∙ c .before .enum-told .given .1))
 
-line-length-requires : tie.Need-line-length-requires
-line-length-requires c κs = search needs
+first-line-requires : tie.Need-first-line-requires
+first-line-requires c κs = search needs
 
 add-next : tie.Need-add-next
-add-next c = omega (arith, c .line-length .ensures, inside (c .before))
+add-next c = omega (arith, c .first-line .ensures, inside (c .before))
 
 sub-read-clock : tie.Need-sub-read-clock
 sub-read-clock c = next-fits (c)
@@ -59,13 +59,13 @@ cast-read-clock : tie.Need-cast-read-clock
 cast-read-clock c = omega (arith, value-limit tabletKey 255 _ _ (tablet-is (c .before .before)))
 
 read-clock-requires : tie.Need-read-clock-requires
-read-clock-requires c κs = omega (arith, rest-long (c .before .before .before .before .before .before .before .before .args .text .now) (c .before .line-length .result + 1), next-fits (c .before))
+read-clock-requires c κs = omega (arith, rest-long (c .before .before .before .before .before .before .before .before .args .text .now) (c .before .first-line .result + 1), next-fits (c .before))
 
 returns-2 : tie.Need-returns-2
 returns-2 c =
     let a = c .before .before .before .before .before .before .before .before .before .args in
     c .read-clock .ensures
-    ∙ event-goes (a .n) (c .before .before .before .before .tablet .given .0 .0) (a .text .now) (c .before .before .line-length .result) (c .before .before .line-length .ensures) (tablet-is (c .before .before .before))
+    ∙ event-goes (a .n) (c .before .before .before .before .tablet .given .0 .0) (a .text .now) (c .before .before .first-line .result) (c .before .before .first-line .ensures) (tablet-is (c .before .before .before))
 
 pub read-event-spec : {M : Type 1} → statement M
 read-event-spec =
@@ -77,7 +77,7 @@ read-event-spec =
     enum-told
     faulty-event-requires
     returns
-    line-length-requires
+    first-line-requires
     add-next
     sub-read-clock
     part-read-clock-start

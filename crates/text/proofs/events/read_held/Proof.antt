@@ -38,14 +38,14 @@ returns : tie.Need-returns
 unfolding heldPart
 returns c = c .faulty-event .ensures ∙ sym (with-fault _ _ _ (sym (c .before .before .before .number-line .ensures) ∙ c .before .enum-told .given .1))
 
-line-length-requires : tie.Need-line-length-requires
-line-length-requires c κs = search needs
+first-line-requires : tie.Need-first-line-requires
+first-line-requires c κs = search needs
 
 add-t11 : tie.Need-add-t11
-add-t11 c = omega (arith, c .line-length .ensures, inside (c .before), c .before .before .before .before .before .before .before .pre)
+add-t11 c = omega (arith, c .first-line .ensures, inside (c .before), c .before .before .before .before .before .before .before .pre)
 
 add-t12 : tie.Need-add-t12
-add-t12 c = omega (arith, c .line-length .ensures, inside (c .before), c .before .before .before .before .before .before .before .pre)
+add-t12 c = omega (arith, c .first-line .ensures, inside (c .before), c .before .before .before .before .before .before .before .pre)
 
 cast-t14 : tie.Need-cast-t14
 cast-t14 c = omega (arith, value-limit heldKey 65535 _ _ (held-is (c .before)))
@@ -54,7 +54,7 @@ returns-2 : tie.Need-returns-2
 unfolding heldPart
 returns-2 c =
     let a = c .before .before .before .before .before .before .before .args in
-    ap {B = EventLines} (λ (k : ℕ). record { fault = 0; used = a .used + (k + 1); event = record { tablet = record { 0 = a .tablet }; clock = a .clock; held = c .before .before .held .given .0 .0 } }) (c .line-length .ensures)
+    ap {B = EventLines} (λ (k : ℕ). record { fault = 0; used = a .used + (k + 1); event = record { tablet = record { 0 = a .tablet }; clock = a .clock; held = c .before .before .held .given .0 .0 } }) (c .first-line .ensures)
     ∙ sym (with-value _ _ _ (c .before .before .held .given .0 .0) (held-is (c .before)))
 
 pub read-held-spec : {M : Type 1} → statement M
@@ -67,7 +67,7 @@ read-held-spec =
     enum-told
     faulty-event-requires
     returns
-    line-length-requires
+    first-line-requires
     add-t11
     add-t12
     cast-t14

@@ -10,11 +10,11 @@ use Rattle.text.specs.Keys.{clockLine, clockKey}
 use Rattle.text.proofs.keys.clock_line.Statement.{statement}
 use Rattle.text.proofs.keys.clock_line.Tie as tie
 
-line-length-requires : tie.Need-line-length-requires
-line-length-requires c κs = search needs
+first-line-requires : tie.Need-first-line-requires
+first-line-requires c κs = search needs
 
 slice-aggregate-value : tie.Need-slice-aggregate-value
-slice-aggregate-value c = line-lent (c .before .before .before .args .text .now) (c .before .line-length .result) (c .before .line-length .ensures)
+slice-aggregate-value c = line-lent (c .before .before .before .args .text .now) (c .before .first-line .result) (c .before .first-line .ensures)
 
 slice-aggregate-value-2 : tie.Need-slice-aggregate-value-2
 slice-aggregate-value-2 c = search needs
@@ -30,13 +30,13 @@ unfolding clockLine
 returns c =
     let a = c .before .before .before .before .before .before .args in
     c .read-list .ensures
-    ∙ ap (listed (a .n)) (c .before .value .ensures ∙ ap (λ (k : ℕ). valueBehind clockKey (take k (a .text .now))) (c .before .before .before .before .line-length .ensures))
+    ∙ ap (listed (a .n)) (c .before .value .ensures ∙ ap (λ (k : ℕ). valueBehind clockKey (take k (a .text .now))) (c .before .before .before .before .first-line .ensures))
 
 pub clock-line-spec : {M : Type 1} → statement M
 clock-line-spec =
     tie.close
     (tie.spec
-    line-length-requires
+    first-line-requires
     slice-aggregate-value
     slice-aggregate-value-2
     value-requires

@@ -9,11 +9,11 @@ use Rattle.text.specs.Keys.{endsHere, eventsKey}
 use Rattle.text.proofs.keys.ends_here.Statement.{statement}
 use Rattle.text.proofs.keys.ends_here.Tie as tie
 
-line-length-requires : tie.Need-line-length-requires
-line-length-requires c κs = search needs
+first-line-requires : tie.Need-first-line-requires
+first-line-requires c κs = search needs
 
 slice-aggregate-starts-with : tie.Need-slice-aggregate-starts-with
-slice-aggregate-starts-with c = line-lent (c .before .before .before .args .text .now) (c .before .line-length .result) (c .before .line-length .ensures)
+slice-aggregate-starts-with c = line-lent (c .before .before .before .args .text .now) (c .before .first-line .result) (c .before .first-line .ensures)
 
 slice-aggregate-starts-with-2 : tie.Need-slice-aggregate-starts-with-2
 slice-aggregate-starts-with-2 c = search needs
@@ -25,13 +25,13 @@ returns : tie.Need-returns
 unfolding endsHere
 returns c =
     let a = c .before .before .before .before .before .args in
-    c .starts-with .ensures ∙ ap (λ (k : ℕ). startsWith eventsKey (take k (a .text .now))) (c .before .before .before .line-length .ensures)
+    c .starts-with .ensures ∙ ap (λ (k : ℕ). startsWith eventsKey (take k (a .text .now))) (c .before .before .before .first-line .ensures)
 
 pub ends-here-spec : {M : Type 1} → statement M
 ends-here-spec =
     tie.close
     (tie.spec
-    line-length-requires
+    first-line-requires
     slice-aggregate-starts-with
     slice-aggregate-starts-with-2
     starts-with-requires

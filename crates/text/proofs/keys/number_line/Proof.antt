@@ -10,11 +10,11 @@ use Rattle.text.specs.Keys.{numberLine}
 use Rattle.text.proofs.keys.number_line.Statement.{statement}
 use Rattle.text.proofs.keys.number_line.Tie as tie
 
-line-length-requires : tie.Need-line-length-requires
-line-length-requires c κs = search needs
+first-line-requires : tie.Need-first-line-requires
+first-line-requires c κs = search needs
 
 slice-aggregate-value : tie.Need-slice-aggregate-value
-slice-aggregate-value c = line-lent (c .before .before .before .before .args .text .now) (c .before .line-length .result) (c .before .line-length .ensures)
+slice-aggregate-value c = line-lent (c .before .before .before .before .args .text .now) (c .before .first-line .result) (c .before .first-line .ensures)
 
 value-requires : tie.Need-value-requires
 value-requires c κs = search needs
@@ -27,13 +27,13 @@ unfolding numberLine
 returns c =
     let a = c .before .before .before .before .before .before .args in
     c .read-number .ensures
-    ∙ ap (number (a .limit)) (c .before .value .ensures ∙ ap (λ (k : ℕ). valueBehind (a .key .now) (take k (a .text .now))) (c .before .before .before .line-length .ensures))
+    ∙ ap (number (a .limit)) (c .before .value .ensures ∙ ap (λ (k : ℕ). valueBehind (a .key .now) (take k (a .text .now))) (c .before .before .before .first-line .ensures))
 
 pub number-line-spec : {M : Type 1} → statement M
 number-line-spec =
     tie.close
     (tie.spec
-    line-length-requires
+    first-line-requires
     slice-aggregate-value
     value-requires
     read-number-requires

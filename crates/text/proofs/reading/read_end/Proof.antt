@@ -41,11 +41,11 @@ refused-at-requires-2 c κs = search needs
 returns-2 : tie.Need-returns-2
 returns-2 c = λ clocks held order. answer-refused (c .refused-at2 .result) FaultyLine _ _ clocks held order (c .refused-at2 .ensures) ∙ sym (ending-other (storeOf (c .before .before .before .before .before .before .before .before .before .args .«record») clocks held order) (c .before .before .before .before .before .before .before .before .before .args .line) (c .before .before .before .before .before .before .before .before .before .args .text .now) (c .before .before .before .before .count .given .0 .0) (count-is (c .before .before .before)) (c .before .if1 .taken))
 
-line-length-requires : tie.Need-line-length-requires
-line-length-requires c κs = search needs
+first-line-requires : tie.Need-first-line-requires
+first-line-requires c κs = search needs
 
 add-if2 : tie.Need-add-if2
-add-if2 c = omega (arith, c .line-length .ensures, number-inside eventsKey 65535 _ _ (count-is (c .before .before .before)))
+add-if2 c = omega (arith, c .first-line .ensures, number-inside eventsKey 65535 _ _ (count-is (c .before .before .before)))
 
 add-refused-at : tie.Need-add-refused-at
 add-refused-at c = search needs
@@ -54,10 +54,10 @@ refused-at-requires-3 : tie.Need-refused-at-requires-3
 refused-at-requires-3 c κs = search needs
 
 returns-3 : tie.Need-returns-3
-returns-3 c = λ clocks held order. answer-refused (c .refused-at3 .result) FaultyLine _ _ clocks held order (c .refused-at3 .ensures) ∙ sym (ending-more (storeOf (c .before .before .before .before .before .before .before .before .before .before .before .args .«record») clocks held order) (c .before .before .before .before .before .before .before .before .before .before .before .args .line) (c .before .before .before .before .before .before .before .before .before .before .before .args .text .now) (c .before .before .before .before .before .before .count .given .0 .0) (count-is (c .before .before .before .before .before)) (c .before .before .before .if1 .left) (omega (arith, c .before .before .line-length .ensures, c .before .if2 .taken)))
+returns-3 c = λ clocks held order. answer-refused (c .refused-at3 .result) FaultyLine _ _ clocks held order (c .refused-at3 .ensures) ∙ sym (ending-more (storeOf (c .before .before .before .before .before .before .before .before .before .before .before .args .«record») clocks held order) (c .before .before .before .before .before .before .before .before .before .before .before .args .line) (c .before .before .before .before .before .before .before .before .before .before .before .args .text .now) (c .before .before .before .before .before .before .count .given .0 .0) (count-is (c .before .before .before .before .before)) (c .before .before .before .if1 .left) (omega (arith, c .before .before .first-line .ensures, c .before .if2 .taken)))
 
 returns-4 : tie.Need-returns-4
-returns-4 c = λ clocks held order. sym (ending-done (storeOf (c .before .before .before .before .before .before .before .before .before .before .args .«record») clocks held order) (c .before .before .before .before .before .before .before .before .before .before .args .line) (c .before .before .before .before .before .before .before .before .before .before .args .text .now) (c .before .before .before .before .before .count .given .0 .0) (count-is (c .before .before .before .before)) (c .before .before .if1 .left) (omega (arith, c .before .line-length .ensures, c .if2 .left)))
+returns-4 c = λ clocks held order. sym (ending-done (storeOf (c .before .before .before .before .before .before .before .before .before .before .args .«record») clocks held order) (c .before .before .before .before .before .before .before .before .before .before .args .line) (c .before .before .before .before .before .before .before .before .before .before .args .text .now) (c .before .before .before .before .before .count .given .0 .0) (count-is (c .before .before .before .before)) (c .before .before .if1 .left) (omega (arith, c .before .first-line .ensures, c .if2 .left)))
 
 pub read-end-spec : {M : Type 1} → statement M
 read-end-spec =
@@ -72,7 +72,7 @@ read-end-spec =
     cast-if1
     refused-at-requires-2
     returns-2
-    line-length-requires
+    first-line-requires
     add-if2
     add-refused-at
     refused-at-requires-3
