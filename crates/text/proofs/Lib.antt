@@ -8,3 +8,4 @@ pub mod Pieces
 pub mod Back
 pub mod Again
 pub mod Theorems
+pub mod Cases
