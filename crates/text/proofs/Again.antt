@@ -38,12 +38,14 @@ use Rattle.lines.specs.Find.{find, firstLine, restLines, startsWith, valueBehin
 use Rattle.lines.specs.Lists.{commaList, moreEntries, listed}
 use Rattle.lines.proofs.Decimals.{number-written}
 use Rattle.lines.proofs.Parts.{through, first-line, rest-lines, line-length, value-keyed, starts-key}
-use Rattle.lines.proofs.Entries.{Small, none-left, and-small, decimal-lacks, listed-written}
+use Rattle.lines.proofs.Entries.{Small, decimal-lacks, listed-written}
 use Rattle.text.specs.declared.events.EventLines.{EventLines}
 use Rattle.text.specs.Keys.{numberLine, clockLine, endsHere, tabletsKey, tabletKey, clockKey, heldKey, eventsKey}
 use Rattle.text.specs.Events.{lineBytes, eventLines}
 use Rattle.text.specs.Reading.{ReadOutcome, TurnOutcome, turn, readOn, reading, freshRecord}
-use Rattle.text.specs.Writing.{keyLine, clockText, eventText, textOf}
+use Rattle.pieces.specs.Lines.{keyLine, listLine}
+use Rattle.pieces.proofs.Lengths.{small-take}
+use Rattle.text.specs.Writing.{eventText, textOf}
 use Rattle.text.proofs.Turns.{event-said, turn-offered, ending-done, step-end, step-on}
 use Rattle.text.proofs.Opening.{fresh-store, reading-goes}
 use Rattle.text.proofs.Back.{key-line-then, clock-text-then, piecesFrom, text-from}
@@ -102,25 +104,20 @@ module _ (vs rest : List ℕ) where
   list-free : find 10 list ≡ length list
   list-free = lacks-both clockKey (commaList vs) refl (list-lacks vs)
 
-  pub clock-read : (n : ℕ) → clockLine n (clockText vs ++ rest) ≡ listed n (commaList vs)
+  pub clock-read : (n : ℕ) → clockLine n (listLine clockKey vs ++ rest) ≡ listed n (commaList vs)
   unfolding clockLine
   clock-read n =
       ap (λ (l : List ℕ). listed n (valueBehind clockKey l)) (ap firstLine (clock-text-then vs rest) ∙ first-line list rest list-free)
       ∙ ap (listed n) (value-keyed clockKey (commaList vs))
 
-  pub clock-rest : restLines (clockText vs ++ rest) ≡ rest
+  pub clock-rest : restLines (listLine clockKey vs ++ rest) ≡ rest
   clock-rest = ap restLines (clock-text-then vs rest) ∙ rest-lines list rest list-free
 
-  pub clock-bytes : lineBytes (clockText vs ++ rest) ≡ length (clockText vs)
-  unfolding clockText
+  pub clock-bytes : lineBytes (listLine clockKey vs ++ rest) ≡ length (listLine clockKey vs)
+  unfolding listLine
   clock-bytes =
       ap lineBytes (clock-text-then vs rest) ∙ ap (λ (k : ℕ). k + 1) (line-length list rest list-free)
       ∙ sym (ap length (sym (append-assoc clockKey (commaList vs) (10 ∷ []))) ∙ length-append list (10 ∷ []))
-
-small-take : (n : ℕ) (l : List ℕ) → ((i : ℕ) → i < n → getD l i 0 ≤ 255) → Small (take n l)
-small-take zero l h = none-left
-small-take (suc n) [] h = none-left
-small-take (suc n) (x ∷ xs) h = and-small (h 0 (omega arith)) (small-take n xs (λ i k. h (suc i) (omega arith)))
 
 listed-take : (n : ℕ) (l : List ℕ) → 1 ≤ n → n ≤ 8 → n ≤ length l → ((i : ℕ) → i < n → getD l i 0 ≤ 255) → listed n (commaList (take n l)) ≡ record { fits = true; values = eight (at (take n l)) }
 listed-take zero l some most long h = let no : ⊥ = omega arith in absurd no
@@ -184,7 +181,7 @@ module _ (s : Store) (none : storeRefusal s ≡ 0) (fits : (q : ℕ) → q < s .
     unfolding eventText
     event-read rest =
         let one = keyLine tabletKey (getD (s .order) q 0) in
-        let two = clockText (take n clock) in
+        let two = listLine clockKey (take n clock) in
         let three = keyLine heldKey (heldOf s name) in
         let parts : (one ++ (two ++ three)) ++ rest ≡ one ++ (two ++ (three ++ rest)) = append-assoc one (two ++ three) rest ∙ ap (λ (l : List ℕ). one ++ l) (append-assoc two three rest) in
         let text = one ++ (two ++ (three ++ rest)) in
@@ -205,7 +202,7 @@ module _ (s : Store) (none : storeRefusal s ≡ 0) (fits : (q : ℕ) → q < s .
     unfolding eventText endsHere
     event-goes-on rest =
         let one = keyLine tabletKey (getD (s .order) q 0) in
-        let more = clockText (take n clock) ++ keyLine heldKey (heldOf s name) in
+        let more = listLine clockKey (take n clock) ++ keyLine heldKey (heldOf s name) in
         ap (λ (l : List ℕ). startsWith eventsKey (firstLine l)) (append-assoc one more rest)
         ∙ key-starts tabletKey refl (getD (s .order) q 0) (more ++ rest) eventsKey
 

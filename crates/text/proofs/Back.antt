@@ -37,7 +37,8 @@ use Rattle.text.specs.declared.events.EventLines.{EventLines}
 use Rattle.text.specs.Keys.{numberLine, clockLine, endsHere, tabletsKey, tabletKey, clockKey, heldKey, eventsKey}
 use Rattle.text.specs.Events.{lineBytes, eventLines}
 use Rattle.text.specs.Reading.{ReadOutcome, refused, ending, turn, readFrom, readOn, reading, freshRecord}
-use Rattle.text.specs.Writing.{keyLine, clockText, eventText, piecesTo, textOf}
+use Rattle.pieces.specs.Lines.{keyLine, listLine}
+use Rattle.text.specs.Writing.{eventText, piecesTo, textOf}
 use Rattle.text.proofs.Lines.{number-filled}
 use Rattle.text.proofs.Turns.{EventBack, event-back, TurnPassed, turn-passed, ending-fault, ending-other, ending-more, ending-done}
 use Rattle.text.proofs.Opening.{fresh-store, reading-short, reading-faulty, reading-width, reading-goes}
@@ -52,8 +53,8 @@ key-line-then key v rest =
     ∙ ap (λ (l : List ℕ). key ++ l) (append-assoc (decimal v) (10 ∷ []) rest)
     ∙ sym (append-assoc key (decimal v) (10 ∷ rest))
 
-pub clock-text-then : (vs rest : List ℕ) → clockText vs ++ rest ≡ (clockKey ++ commaList vs) ++ (10 ∷ rest)
-unfolding clockText
+pub clock-text-then : (vs rest : List ℕ) → listLine clockKey vs ++ rest ≡ (clockKey ++ commaList vs) ++ (10 ∷ rest)
+unfolding listLine
 clock-text-then vs rest =
     append-assoc clockKey (commaList vs ++ (10 ∷ [])) rest
     ∙ ap (λ (l : List ℕ). clockKey ++ l) (append-assoc (commaList vs) (10 ∷ []) rest)
@@ -73,7 +74,7 @@ pub record ClockBack (n : ℕ) (text : List ℕ) : Type 0 where
   pub long : length entries ≡ n
   pub most : n ≤ 8
   pub values : clockLine n text .values ≡ eight (at entries)
-  pub bytes : text ≡ clockText entries ++ restLines text
+  pub bytes : text ≡ listLine clockKey entries ++ restLines text
 
 pub clock-line-back : (n : ℕ) (text : List ℕ) → clockLine n text .fits ≡ true → ClockBack n text
 unfolding clockLine
@@ -115,17 +116,17 @@ module _ (n : ℕ) (text : List ℕ) (b : EventBack n text) where
   pub event-long : length (clockLine n second .values) ≡ 8
   event-long = ap length (clock .values) ∙ length-eight (at (clock .entries))
 
-  pub lines-back : text ≡ (keyLine tabletKey (b .tablet) ++ (clockText (take n (clockLine n second .values)) ++ keyLine heldKey (b .held))) ++ restLines third
+  pub lines-back : text ≡ (keyLine tabletKey (b .tablet) ++ (listLine clockKey (take n (clockLine n second .values)) ++ keyLine heldKey (b .held))) ++ restLines third
   lines-back =
       let entries : take n (clockLine n second .values) ≡ clock .entries = ap (take n) (clock .values) ∙ first-entries n (clock .entries) (clock .long) (clock .most) in
       let one = keyLine tabletKey (b .tablet) in
-      let two = clockText (clock .entries) in
+      let two = listLine clockKey (clock .entries) in
       let three = keyLine heldKey (b .held) in
       number-line-back tabletKey 255 text (b .tablet) (b .tablet-is)
       ∙ ap (λ (l : List ℕ). one ++ l) (clock .bytes ∙ ap (λ (l : List ℕ). two ++ l) (number-line-back heldKey 65535 third (b .held) (b .held-is)))
       ∙ ap (λ (l : List ℕ). one ++ l) (sym (append-assoc two three (restLines third)))
       ∙ sym (append-assoc one (two ++ three) (restLines third))
-      ∙ ap (λ (l : List ℕ). (one ++ (clockText l ++ three)) ++ restLines third) (sym entries)
+      ∙ ap (λ (l : List ℕ). (one ++ (listLine clockKey l ++ three)) ++ restLines third) (sym entries)
 
   pub rest-back : drop (eventLines n text .used) text ≡ restLines third
   rest-back =
@@ -168,7 +169,7 @@ event-text-same r f q agree there =
     let clock : take (r .tablets) (clockOf (clocksOf r) (eventAt (r .order) q)) ≡ take (f .tablets) (clockOf (clocksOf f) (eventAt (f .order) q)) =
     ap₂ take (agree .tablets) (agree .clocks (eventAt (r .order) q) there ∙ ap (clockOf (clocksOf f)) name) in
     let held : heldOf r (eventAt (r .order) q) ≡ heldOf f (eventAt (f .order) q) = agree .held (eventAt (r .order) q) there ∙ ap (heldOf f) name in
-    λ i. keyLine tabletKey (byte i) ++ (clockText (clock i) ++ keyLine heldKey (held i))
+    λ i. keyLine tabletKey (byte i) ++ (listLine clockKey (clock i) ++ keyLine heldKey (held i))
 
 -- the last line that was read
 module _ (s : Store) (line : ℕ) (text : List ℕ) (none : ending s line text .refusal ≡ 0) where
@@ -198,7 +199,7 @@ module _ (s : Store) (line : ℕ) (text : List ℕ) (none : ending s line text .
   ending-back = by-number (numberLine eventsKey 65535 text) refl
 
 -- an event that was accepted is written as it was read
-accepted-text : (s : Store) (e : Event) → storeRefusal s ≡ 0 → length (e .clock) ≡ 8 → eventRefusal s e ≡ 0 → eventText (accepted s e) (s .events) ≡ keyLine tabletKey (e .tablet .0) ++ (clockText (take (s .tablets) (e .clock)) ++ keyLine heldKey (e .held))
+accepted-text : (s : Store) (e : Event) → storeRefusal s ≡ 0 → length (e .clock) ≡ 8 → eventRefusal s e ≡ 0 → eventText (accepted s e) (s .events) ≡ keyLine tabletKey (e .tablet .0) ++ (listLine clockKey (take (s .tablets) (e .clock)) ++ keyLine heldKey (e .held))
 unfolding eventText accepted
 accepted-text s e none long may =
     let snd = tested-sound s none in
@@ -208,7 +209,7 @@ accepted-text s e none long may =
     let name = event-written s snd full e long may in
     let clock : clockOf (clocksOf (accepted s e)) (eventAt (accepted s e .order) (s .events)) ≡ e .clock = ap (clockOf (clocksOf (accepted s e))) name ∙ clock-stored s snd full e long may in
     let held : heldOf (accepted s e) (eventAt (accepted s e .order) (s .events)) ≡ e .held = ap (heldOf (accepted s e)) name ∙ held-stored s snd full e long may in
-    λ i. keyLine tabletKey (byte i) ++ (clockText (take (s .tablets) (clock i)) ++ keyLine heldKey (held i))
+    λ i. keyLine tabletKey (byte i) ++ (listLine clockKey (take (s .tablets) (clock i)) ++ keyLine heldKey (held i))
 
 -- what was read, told by the store that it left
 pub record ReadBack (r : Store) (text : List ℕ) (f : Store) : Type 0 where
@@ -244,8 +245,8 @@ module _ (r : Store) (none : storeRefusal r ≡ 0) (text : List ℕ) (p : TurnPa
   read-lines : text ≡ eventText (accepted r e) (r .events) ++ rest
   read-lines =
       lines-back n text b
-      ∙ ap (λ (l : List ℕ). (keyLine tabletKey (b .tablet) ++ (clockText (take n (clockLine n (restLines text) .values)) ++ keyLine heldKey (b .held))) ++ l) (sym (rest-back n text b))
-      ∙ ap (λ (l : EventLines). (keyLine tabletKey (l .event .tablet .0) ++ (clockText (take n (l .event .clock)) ++ keyLine heldKey (l .event .held))) ++ rest) (sym (b .is))
+      ∙ ap (λ (l : List ℕ). (keyLine tabletKey (b .tablet) ++ (listLine clockKey (take n (clockLine n (restLines text) .values)) ++ keyLine heldKey (b .held))) ++ l) (sym (rest-back n text b))
+      ∙ ap (λ (l : EventLines). (keyLine tabletKey (l .event .tablet .0) ++ (listLine clockKey (take n (l .event .clock)) ++ keyLine heldKey (l .event .held))) ++ rest) (sym (b .is))
       ∙ ap (λ (l : List ℕ). l ++ rest) (sym (accepted-text r e none long (p .may)))
 
   one-later : accepted r e .events ≡ suc (r .events)

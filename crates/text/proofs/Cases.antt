@@ -12,9 +12,10 @@ use Rattle.lines.specs.Lists.{notListed, listed}
 use Rattle.text.specs.Keys.{numberLine, clockLine, endsHere}
 use Rattle.text.specs.Events.{heldPart, clockPart, eventLines}
 use Rattle.text.specs.Reading.{ending, turn, readOn, reading}
-use Rattle.text.specs.Writing.{keyLine, clockText, eventText, pieceText, textOf}
+use Rattle.pieces.specs.Lines.{keyLine, listLine}
+use Rattle.text.specs.Writing.{eventText, pieceText, textOf}
 use Rattle.text.specs.Cases.{table}
 
 pub texts-as-written : T (passed table)
-unfolding eight zeros slot clockIn covered tallies tabletRefusal othersWithin covers clockRefusal followRefusal accepted eventRefusal decimal plain digitsFrom number lineLength valueBehind notListed listed numberLine clockLine endsHere heldPart clockPart eventLines ending turn readOn reading keyLine clockText eventText pieceText textOf
+unfolding eight zeros slot clockIn covered tallies tabletRefusal othersWithin covers clockRefusal followRefusal accepted eventRefusal decimal plain digitsFrom number lineLength valueBehind notListed listed numberLine clockLine endsHere heldPart clockPart eventLines ending turn readOn reading keyLine listLine eventText pieceText textOf
 texts-as-written = tt

@@ -3,7 +3,7 @@ pub mod Lines
 pub mod Turns
 pub mod Opening
 pub mod Unique
-pub mod Putting
+pub mod Counting
 pub mod Pieces
 pub mod Back
 pub mod Again

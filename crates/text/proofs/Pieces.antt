@@ -7,37 +7,31 @@ use Prim.Native.Nat.{ℕ, _+_, _-_, _*_, _≤_, _<_}
 use native.Mathlib.Omega.{arith}
 use borrow.Author.Tests.{eq-eqb, ne-eqb, le-leb, lt-leb, lt-ltb, le-ltb}
 use lib.Dec.{leb, ltb}
-use lib.ListN.{length, getD, take, drop, length-drop}
+use lib.ListN.{length, getD, take, drop}
 use lib.Seq.{sets, sets-eq, length-take-le}
 use Rattle.model.specs.Numbers.{slot}
 use Rattle.model.specs.Clocks.{clockIn, clockOf}
-use Rattle.model.specs.Follow.{columnAt, tally, tallies, eventAt}
+use Rattle.model.specs.Follow.{columnAt, tallies, eventAt}
 use Rattle.model.specs.Store.{Store, clocksOf, storeRefusal}
 use Rattle.model.proofs.Refusals.{or-else-first, or-else-next}
 use Rattle.model.proofs.Follow.{Follows}
 use Rattle.model.proofs.Valid.{at-tallies}
 use Rattle.model.proofs.Sound.{Sound, Full, follows-at}
-use Rattle.model.proofs.Slots.{part-clock}
+use Rattle.model.proofs.Slots.{clock-in-long, part-clock}
 use Rattle.store.proofs.Ready.{tested-sound, tested-full}
-use Rattle.lines.specs.declared.pieces.Piece.{Piece}
-use Rattle.lines.specs.Pieces.{grown, emptyPiece, contents}
-use Rattle.lines.proofs.Growing.{grown-grown, put-contents, put-length}
-use Rattle.text.specs.Keys.{tabletsKey, tabletKey, heldKey, eventsKey}
-use Rattle.text.specs.Writing.{keyLine, clockText, eventText, pieceText, writeRefusal, WriteOutcome, writing, Writable}
+use Rattle.pieces.specs.declared.Piece.{Piece}
+use Rattle.pieces.specs.Pieces.{grown, emptyPiece, contents}
+use Rattle.pieces.specs.Lines.{keyLine, listLine}
+use Rattle.pieces.proofs.Growing.{put-contents, contents-length}
+use Rattle.pieces.proofs.Putting.{put-empty, put-two}
+use Rattle.pieces.proofs.Lengths.{byte-digits, half-digits, small-take, list-long, key-line-length, list-line-length}
+use Rattle.text.specs.Keys.{tabletsKey, tabletKey, clockKey, heldKey, eventsKey}
+use Rattle.text.specs.Writing.{threeLines, eventText, pieceText, writeRefusal, WriteOutcome, writing, Placed, Writable}
 
-pub empty-length : (p : Piece) → p ≡ emptyPiece → p .length ≡ 0
-unfolding emptyPiece
-empty-length p e = ap (λ (x : Piece). x .length) e
-
-pub put-empty : (p r : Piece) (text : List ℕ) → p ≡ emptyPiece → r ≡ grown p text → r ≡ grown emptyPiece text
-put-empty p r text ep er = er ∙ ap (λ (x : Piece). grown x text) ep
-
+-- the event at a position of a sound store: where it lies, and what lies there
 module _ (s : Store) (q : ℕ) (w : Writable s q) where
   abbrev tablet : ℕ
   tablet = getD (s .order) q 0
-
-  abbrev count : ℕ
-  count = tally (s .order) q (tablet - 1)
 
   snd : Sound s
   snd = tested-sound s (w .refusal)
@@ -48,44 +42,66 @@ module _ (s : Store) (q : ℕ) (w : Writable s q) where
   follows : Follows (s .tablets) (clocksOf s) (tallies (s .order) q) tablet (clockOf (clocksOf s) (eventAt (s .order) q))
   follows = follows-at s snd q (w .inside)
 
+  pub placed : Placed (s .order) q
+  placed =
+      record {
+        inside = omega (arith, w .inside, snd .total, full .order);
+        some = follows .positive;
+        narrow = omega (arith, follows .listed, snd .narrow);
+        room = omega (arith, follows .room, at-tallies (s .order) q (tablet - 1) (omega (arith, follows .positive, follows .listed, snd .narrow)));
+      }
+
   pub widths : (1 ≤ s .tablets) × (s .tablets ≤ 8)
   widths = (snd .some, snd .narrow)
 
-  pub tablet-bounds : (1 ≤ tablet) × (tablet ≤ 8)
-  tablet-bounds = (follows .positive, omega (arith, follows .listed, snd .narrow))
+  module _ (home : ℕ) (is : home ≡ slot (columnAt (s .order) q) (eventAt (s .order) q .number)) where
+    pub home-low : home < 2032
+    unfolding slot
+    home-low = omega (arith, is, placed .some, placed .narrow, placed .room)
 
-  pub in-order : q < length (s .order)
-  in-order = omega (arith, w .inside, snd .total, full .order)
+    pub clock-inside : 8 * home + 8 ≤ length (s .clocks)
+    clock-inside = omega (arith, home-low, full .clocks)
 
-  pub count-low : count < 254
-  count-low = omega (arith, follows .room, at-tallies (s .order) q (tablet - 1) (omega (arith, tablet-bounds .0, tablet-bounds .1)))
+    pub held-inside : home < length (s .held)
+    held-inside = omega (arith, home-low, full .held)
 
-  pub home-low : (tablet - 1) * 254 + count < 2032
-  home-low = omega (arith, tablet-bounds .0, tablet-bounds .1, count-low)
+    pub part-long : length (take (8 * home + 8 - 8 * home) (drop (8 * home) (s .clocks))) ≡ 8
+    part-long = ap length (part-clock (s .clocks) home) ∙ clock-in-long (s .clocks) home clock-inside
 
-  pub sizes : (16256 ≤ length (s .clocks)) × (2032 ≤ length (s .held))
-  sizes = (full .clocks, full .held)
+    pub event-text : threeLines tablet (take (s .tablets) (take (8 * home + 8 - 8 * home) (drop (8 * home) (s .clocks)))) (getD (s .held) home 0) ≡ eventText s q
+    unfolding eventText
+    event-text =
+        ap (λ (l : List ℕ). threeLines tablet (take (s .tablets) l) (getD (s .held) home 0)) (part-clock (s .clocks) home)
+        ∙ ap (λ (k : ℕ). threeLines tablet (take (s .tablets) (clockIn (s .clocks) k)) (getD (s .held) k 0)) is
 
-  home-is : (tablet - 1) * 254 + count ≡ slot (columnAt (s .order) q) (eventAt (s .order) q .number)
-  unfolding slot
-  home-is = omega arith
+-- how long the lines get
 
-  -- the three lines, with the clock and the held value read where they lie
-  pub lines-put : (home : ℕ) (p first second r : Piece) → home ≡ (tablet - 1) * 254 + count → p ≡ emptyPiece → first ≡ grown p (keyLine tabletKey tablet) → second ≡ grown first (clockText (take (s .tablets) (take (8 * home + 8 - 8 * home) (drop (8 * home) (s .clocks))))) → r ≡ grown second (keyLine heldKey (getD (s .held) home 0)) → r ≡ grown emptyPiece (eventText s q)
-  unfolding eventText
-  lines-put home p first second r at-home ep ef es er =
-      let there = at-home ∙ home-is in
-      let e : r ≡ grown first (clockText (take (s .tablets) (take (8 * home + 8 - 8 * home) (drop (8 * home) (s .clocks)))) ++ keyLine heldKey (getD (s .held) home 0)) = er ∙ ap (λ (x : Piece). grown x (keyLine heldKey (getD (s .held) home 0))) es ∙ grown-grown first _ _ in
-      e ∙ ap (λ (x : Piece). grown x (clockText (take (s .tablets) (take (8 * home + 8 - 8 * home) (drop (8 * home) (s .clocks)))) ++ keyLine heldKey (getD (s .held) home 0))) (put-empty p first (keyLine tabletKey tablet) ep ef)
-      ∙ grown-grown emptyPiece (keyLine tabletKey tablet) _
-      ∙ ap (λ (l : List ℕ). grown emptyPiece (keyLine tabletKey tablet ++ (clockText (take (s .tablets) l) ++ keyLine heldKey (getD (s .held) home 0)))) (part-clock (s .clocks) home)
-      ∙ ap (λ (k : ℕ). grown emptyPiece (keyLine tabletKey tablet ++ (clockText (take (s .tablets) (clockIn (s .clocks) k)) ++ keyLine heldKey (getD (s .held) k 0)))) there
+line-most : (key : List ℕ) (n : ℕ) → n ≤ 65535 → length (keyLine key n) ≤ length key + 6
+line-most key n h = omega (arith, key-line-length key n, half-digits n h)
 
--- a part of eight
-pub part-long : (l : List ℕ) (a : ℕ) → a + 8 ≤ length l → length (take (a + 8 - a) (drop a l)) ≡ 8
-part-long l a h =
-    let e : a + 8 - a ≡ 8 = omega arith in
-    ap (λ (n : ℕ). length (take n (drop a l))) e ∙ length-take-le 8 (drop a l) (omega (arith, length-drop a l))
+pub tablets-line : (s : Store) → storeRefusal s ≡ 0 → length (keyLine tabletsKey (s .tablets)) ≤ 14
+tablets-line s none = line-most tabletsKey (s .tablets) (omega (arith, tested-sound s none .narrow))
+
+pub events-line : (s : Store) → storeRefusal s ≡ 0 → length (keyLine eventsKey (s .events)) ≤ 13
+events-line s none = line-most eventsKey (s .events) (omega (arith, tested-sound s none .total))
+
+pub tablet-line : (tablet : ℕ) → tablet ≤ 255 → length (keyLine tabletKey tablet) ≤ 11
+tablet-line tablet h = omega (arith, key-line-length tabletKey tablet, byte-digits tablet h)
+
+pub held-line : (held : ℕ) → held ≤ 65535 → length (keyLine heldKey held) ≤ 11
+held-line held h = line-most heldKey held h
+
+pub clock-line : (n : ℕ) (clock : List ℕ) → 1 ≤ n → n ≤ 8 → length clock ≡ 8 → ((i : ℕ) → i < n → getD clock i 0 ≤ 255) → length (listLine clockKey (take n clock)) ≤ 38
+clock-line n clock some most long bytes =
+    let entries = length-take-le n clock (omega arith) in
+    omega (arith, entries, list-line-length clockKey (take n clock), list-long (take n clock) (small-take n clock bytes) (omega (arith, entries)))
+
+-- the three lines of an event, put one behind the other
+pub lines-put : (p first second r : Piece) (tablet : ℕ) (entries : List ℕ) (held : ℕ) → p ≡ emptyPiece → first ≡ grown p (keyLine tabletKey tablet) → second ≡ grown first (listLine clockKey entries) → r ≡ grown second (keyLine heldKey held) → r ≡ grown emptyPiece (threeLines tablet entries held)
+lines-put p first second r tablet entries held ep ef es er =
+    put-empty p r (threeLines tablet entries held) ep
+    (put-two p first r (keyLine tabletKey tablet) (listLine clockKey entries ++ keyLine heldKey held) ef
+    (put-two first second r (listLine clockKey entries) (keyLine heldKey held) es er))
 
 -- which piece it is
 module _ (s : Store) (p : ℕ) where
@@ -154,18 +170,8 @@ module _ (s : Store) (p : ℕ) (out : List ℕ) where
       -- the piece as it was put together and copied
       pub write-copied : (piece : Piece) (exit : List ℕ) → piece ≡ grown emptyPiece (pieceText s p) → piece .length ≤ 64 → piece .length ≤ length out → exit ≡ sets out 0 (contents piece) → record { refusal = 0; length = piece .length; output = exit } ≡ writing s p out
       write-copied piece exit is few fits e =
-          let long : piece .length ≡ length (pieceText s p) = ap (λ (x : Piece). x .length) is ∙ put-length (pieceText s p) in
+          let long : piece .length ≡ length (pieceText s p) = contents-length piece (pieceText s p) is in
           let bytes : contents piece ≡ pieceText s p = ap contents is ∙ put-contents (pieceText s p) (omega arith) in
           let same : 0 + length (pieceText s p) ≡ length (pieceText s p) = omega arith in
           let out-is : exit ≡ pieceText s p ++ drop (length (pieceText s p)) out = e ∙ ap (sets out 0) bytes ∙ sets-eq (pieceText s p) out 0 (omega arith) ∙ ap (λ (n : ℕ). pieceText s p ++ drop n out) same in
           (λ i. record { refusal = 0; length = long i; output = out-is i }) ∙ write-done (omega arith)
-
--- an output too short for the piece
-pub short-for : (s : Store) (p : ℕ) (piece : Piece) → piece ≡ grown emptyPiece (pieceText s p) → piece .length ≡ length (pieceText s p)
-short-for s p piece is = ap (λ (x : Piece). x .length) is ∙ put-length (pieceText s p)
-
-pub few-tablets : (s : Store) → storeRefusal s ≡ 0 → s .tablets < 65536
-few-tablets s none = omega (arith, tested-sound s none .narrow)
-
-pub few-events : (s : Store) → storeRefusal s ≡ 0 → s .events < 65536
-few-events s none = omega (arith, tested-sound s none .total)

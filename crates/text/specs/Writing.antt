@@ -1,32 +1,27 @@
 -- "Writing is by pieces: 0 the `tablets` line, p in 1 to T three lines, T+1 the `events` line. The text is the pieces joined."
 use mathlib.Core.Path.{_≡_}
-use Prim.Native.Nat.{ℕ, zero, suc, _+_, _-_, _<_}
+use Prim.Native.Nat.{ℕ, zero, suc, _+_, _-_, _≤_, _<_}
 use mathlib.Core.Bool.{cond}
 use mathlib.Core.List.{List, [], _∷_, _++_}
 use lib.Dec.{leb, ltb, eqb}
 use lib.ListN.{length, getD, take, drop}
 use Rattle.model.specs.Refusals.{verdictNumber, orElse}
 use Rattle.model.specs.Clocks.{clockOf}
-use Rattle.model.specs.Follow.{eventAt}
+use Rattle.model.specs.Follow.{tally, columnAt, eventAt}
 use Rattle.model.specs.Store.{Store, clocksOf, heldOf, storeRefusal}
-use Rattle.lines.specs.Numbers.{decimal}
-use Rattle.lines.specs.Lists.{commaList}
+use Rattle.pieces.specs.Lines.{keyLine, listLine}
 use Rattle.text.specs.declared.WriteAnswer.{WriteAnswer}
 use Rattle.text.specs.Keys.{tabletsKey, tabletKey, clockKey, heldKey, eventsKey}
 
--- a line with a number behind its key, and the line of a clock's entries; each ended by an LF (byte 10)
-unfoldable pub keyLine : List ℕ → ℕ → List ℕ
-keyLine key n = key ++ (decimal n ++ (10 ∷ []))
+-- the three lines of an event
+abbrev pub threeLines : ℕ → List ℕ → ℕ → List ℕ
+threeLines tablet entries held =
+    keyLine tabletKey tablet ++ (listLine clockKey entries ++ keyLine heldKey held)
 
-unfoldable pub clockText : List ℕ → List ℕ
-clockText entries = clockKey ++ (commaList entries ++ (10 ∷ []))
-
--- the three lines of the event at position q + 1
+-- those of the event at position q + 1: of its clock the n entries of the tablets that there are
 unfoldable pub eventText : Store → ℕ → List ℕ
 eventText s q =
-    keyLine tabletKey (getD (s .order) q 0)
-    ++ (clockText (take (s .tablets) (clockOf (clocksOf s) (eventAt (s .order) q)))
-    ++ keyLine heldKey (heldOf s (eventAt (s .order) q)))
+    threeLines (getD (s .order) q 0) (take (s .tablets) (clockOf (clocksOf s) (eventAt (s .order) q))) (heldOf s (eventAt (s .order) q))
 
 unfoldable pub pieceText : Store → ℕ → List ℕ
 pieceText s p =
@@ -61,6 +56,13 @@ writing s p out =
     cond (eqb (writeRefusal s p (length out)) 0)
     (record { refusal = 0; length = length (pieceText s p); output = pieceText s p ++ drop (length (pieceText s p)) out })
     (record { refusal = writeRefusal s p (length out); length = 0; output = out })
+
+-- what finding the slot of the event at position q + 1 may assume
+pub record Placed (order : List ℕ) (q : ℕ) : Type 0 where
+  pub inside : q < length order
+  pub some : 1 ≤ getD order q 0
+  pub narrow : getD order q 0 ≤ 8
+  pub room : tally order q (columnAt order q) < 254
 
 -- what putting an event's lines together may assume
 pub record Writable (s : Store) (q : ℕ) : Type 0 where

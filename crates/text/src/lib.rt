@@ -1,6 +1,6 @@
 // The trace text: a text is read into the caller's three buffers, and a store is written as text, piece by piece.
 mod events;
-mod keys;
+pub mod keys;
 pub mod reader;
 pub mod reading;
 mod writing;
@@ -8,11 +8,11 @@ mod writing;
 use keys::TABLETS;
 use keys::number_line;
 use lines::numbers::Number;
-use lines::pieces::copy_out;
 use model::Position;
 use model::Record;
 use model::Refusal;
 use model::Verdict;
+use pieces::copy_out;
 use reader::first_line;
 use reading::ReadAnswer;
 use reading::read_events;

@@ -4,7 +4,8 @@ use native.Mathlib.Omega.{arith}
 use borrow.Author.Needs.{needs}
 use Rattle.model.proofs.Refusals.{passed-zero, refused-some}
 use Rattle.model.specs.Store.{Store, storeOf, storeRefusal}
-use Rattle.text.proofs.Pieces.{write-unsound, write-beyond, write-short, write-copied, short-for}
+use Rattle.pieces.proofs.Growing.{contents-length}
+use Rattle.text.proofs.Pieces.{write-unsound, write-beyond, write-short, write-copied}
 use Rattle.text.proofs.write.Statement.{statement}
 use Rattle.text.proofs.write.Tie as tie
 
@@ -42,7 +43,7 @@ piece-of-requires : tie.Need-piece-of-requires
 piece-of-requires c κs = sound-is (c .before .before .before)
 
 returns-3 : tie.Need-returns-3
-returns-3 c = write-short (st (c .before .before .before .before .before .before .before .before .before .before .before .before)) (c .before .before .before .before .before .before .before .before .before .before .before .before .args .piece .0) (c .before .before .before .before .before .before .before .before .before .before .before .before .args .out .now) (sound-is (c .before .before .before .before .before)) (c .before .before .if1 .left) (omega (arith, short-for (st (c .before .before .before .before .before .before .before .before .before .before .before .before)) (c .before .before .before .before .before .before .before .before .before .before .before .before .args .piece .0) (c .before .piece-of .result) (c .before .piece-of .ensures .0), c .if2 .taken))
+returns-3 c = write-short (st (c .before .before .before .before .before .before .before .before .before .before .before .before)) (c .before .before .before .before .before .before .before .before .before .before .before .before .args .piece .0) (c .before .before .before .before .before .before .before .before .before .before .before .before .args .out .now) (sound-is (c .before .before .before .before .before)) (c .before .before .if1 .left) (omega (arith, contents-length (c .before .piece-of .result) _ (c .before .piece-of .ensures .0), c .if2 .taken))
 
 copy-out-requires : tie.Need-copy-out-requires
 copy-out-requires c κs = (c .before .before .piece-of .ensures .1, c .before .if2 .left)

@@ -4,7 +4,7 @@ use mathlib.Core.Logic.{⊎-elim}
 use Prim.Native.Nat.{ℕ, _-_, _≤_}
 use native.Mathlib.Omega.{arith}
 use Rattle.model.specs.Follow.{tally}
-use Rattle.text.proofs.Putting.{count-own, count-other}
+use Rattle.text.proofs.Counting.{count-own, count-other}
 use Rattle.text.proofs.writing.count_before.Statement.{statement}
 use Rattle.text.proofs.writing.count_before.Tie as tie
 

@@ -1,8 +1,8 @@
 -- `empty_piece`: no byte yet.
 use mathlib.Core.Path.{refl}
-use Rattle.lines.specs.Pieces.{emptyPiece}
-use Rattle.lines.proofs.pieces.empty_piece.Statement.{statement}
-use Rattle.lines.proofs.pieces.empty_piece.Tie as tie
+use Rattle.pieces.specs.Pieces.{emptyPiece}
+use Rattle.pieces.proofs.empty_piece.Statement.{statement}
+use Rattle.pieces.proofs.empty_piece.Tie as tie
 
 returns : tie.Need-returns
 unfolding emptyPiece

@@ -6,17 +6,17 @@ use native.Mathlib.Omega.{arith}
 use borrow.Fn.Kinds.{In}
 use borrow.Fn.PlainCycle.{Measures, is, falls, and}
 use lib.ListN.{length}
-use Rattle.lines.proofs.Growing.{grown-grown, grown-length}
+use Rattle.pieces.proofs.Growing.{grown-grown, grown-length}
 use Rattle.lines.proofs.Decimals.{decimal-digit, decimal-tens, tens-length}
-use Rattle.lines.specs.Pieces.{grown}
+use Rattle.pieces.specs.Pieces.{grown}
 use Rattle.lines.specs.Numbers.{decimal}
-use Rattle.lines.specs.declared.pieces.Piece.{Piece}
-use Rattle.lines.proofs.pieces.+put_number.{statement}
-use Rattle.lines.proofs.pieces.+put_number.Tie.{close}
-use Rattle.lines.proofs.pieces.put_number.Reads as put-number
-use Rattle.lines.proofs.pieces.put_number.Kinds as put-number-kinds
-use Rattle.lines.proofs.pieces.+put_number.Lts-put_number as put-number-lts
-use Rattle.lines.proofs.pieces.put_byte.Reads as put-byte-reads
+use Rattle.pieces.specs.declared.Piece.{Piece}
+use Rattle.pieces.proofs.+put_number.{statement}
+use Rattle.pieces.proofs.+put_number.Tie.{close}
+use Rattle.pieces.proofs.put_number.Reads as put-number
+use Rattle.pieces.proofs.put_number.Kinds as put-number-kinds
+use Rattle.pieces.proofs.+put_number.Lts-put_number as put-number-lts
+use Rattle.pieces.proofs.put_byte.Reads as put-byte-reads
 
 abbrev μ-put-number : Measures 0 put-number-kinds.ps ℕ
 μ-put-number κs a = a .1 .0

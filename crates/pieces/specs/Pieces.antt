@@ -3,7 +3,7 @@ use Prim.Native.Nat.{ℕ, _+_}
 use mathlib.Core.List.{List}
 use lib.ListN.{length, take, replicate}
 use lib.Seq.{sets}
-use Rattle.lines.specs.declared.pieces.Piece.{Piece}
+use Rattle.pieces.specs.declared.Piece.{Piece}
 
 unfoldable pub emptyPiece : Piece
 emptyPiece = record { length = 0; bytes = replicate 64 0 }

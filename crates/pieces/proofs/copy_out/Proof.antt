@@ -6,10 +6,10 @@ use native.Mathlib.Omega.{arith}
 use borrow.Author.Needs.{needs}
 use lib.ListN.{take, getD, set}
 use lib.Seq.{sets, length-sets}
-use Rattle.lines.proofs.Growing.{sets-more}
-use Rattle.lines.proofs.pieces.copy_out.Statement.{statement}
+use Rattle.pieces.proofs.Growing.{sets-more}
+use Rattle.pieces.proofs.copy_out.Statement.{statement}
 use lib.ListN as lists
-use Rattle.lines.proofs.pieces.copy_out.Tie as tie
+use Rattle.pieces.proofs.copy_out.Tie as tie
 
 abbrev Inv-loop : tie.InvT-loop
 Inv-loop out₀ length bytes i₀ out i = (i ≤ length) × (out ≡ sets out₀ 0 (take i bytes))

@@ -5,11 +5,11 @@ use Prim.Native.Nat.{_-_, _≤_}
 use native.Mathlib.Omega.{arith}
 use lib.ListN.{length, take, getD}
 use lib.Seq.{take-all, length-take-le}
-use Rattle.lines.specs.declared.pieces.Piece.{Piece}
-use Rattle.lines.specs.Pieces.{grown}
-use Rattle.lines.proofs.Growing.{grown-none, grown-more, grown-length}
-use Rattle.lines.proofs.pieces.put_bytes.Statement.{statement}
-use Rattle.lines.proofs.pieces.put_bytes.Tie as tie
+use Rattle.pieces.specs.declared.Piece.{Piece}
+use Rattle.pieces.specs.Pieces.{grown}
+use Rattle.pieces.proofs.Growing.{grown-none, grown-more, grown-length}
+use Rattle.pieces.proofs.put_bytes.Statement.{statement}
+use Rattle.pieces.proofs.put_bytes.Tie as tie
 
 abbrev Inv-loop : tie.InvT-loop
 Inv-loop text longer₀ i₀ longer i = (i ≤ length text) × (longer ≡ grown longer₀ (take i text))

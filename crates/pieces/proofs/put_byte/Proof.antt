@@ -1,9 +1,9 @@
 -- `put_byte`: one store behind the bytes that the piece has.
 use mathlib.Core.Path.{refl}
 use borrow.Author.Needs.{needs}
-use Rattle.lines.specs.Pieces.{grown}
-use Rattle.lines.proofs.pieces.put_byte.Statement.{statement}
-use Rattle.lines.proofs.pieces.put_byte.Tie as tie
+use Rattle.pieces.specs.Pieces.{grown}
+use Rattle.pieces.proofs.put_byte.Statement.{statement}
+use Rattle.pieces.proofs.put_byte.Tie as tie
 
 array-write-bytes : tie.Need-array-write-bytes
 array-write-bytes c = search needs

@@ -6,8 +6,8 @@ use native.Mathlib.Omega.{arith}
 use native.Mathlib.Numerals.{add-one}
 use lib.ListN.{length, getD, take, set, drop, replicate, length-append, length-replicate}
 use lib.Seq.{sets, take-suc, length-take-le, sets-eq, take-at}
-use Rattle.lines.specs.declared.pieces.Piece.{Piece}
-use Rattle.lines.specs.Pieces.{grown, emptyPiece, contents}
+use Rattle.pieces.specs.declared.Piece.{Piece}
+use Rattle.pieces.specs.Pieces.{grown, emptyPiece, contents}
 
 pub sets-append : (l : List ℕ) (a : ℕ) (xs ys : List ℕ) → sets (sets l a xs) (a + length xs) ys ≡ sets l a (xs ++ ys)
 sets-append l a [] ys = let e : a + 0 ≡ a = omega arith in ap (λ (i : ℕ). sets l i ys) e
@@ -52,6 +52,8 @@ put-contents text h =
     ap (take (0 + length text)) (sets-eq text (replicate 64 0) 0 (omega (arith, length-replicate {A = ℕ} 64 0)))
     ∙ take-at text (drop (0 + length text) (replicate 64 0)) (0 + length text) (omega arith)
 
-pub put-length : (text : List ℕ) → grown emptyPiece text .length ≡ length text
+pub contents-length : (p : Piece) (text : List ℕ) → p ≡ grown emptyPiece text → p .length ≡ length text
 unfolding grown emptyPiece
-put-length text = omega arith
+contents-length p text e =
+    let from-none : 0 + length text ≡ length text = omega arith in
+    ap (λ (x : Piece). x .length) e ∙ from-none
