@@ -14,10 +14,10 @@ use Rattle.store.specs.Outcomes.{Opened, opened, opening}
 use Rattle.lines.specs.declared.numbers.Number.the-variants.{Value, Faulty}
 use Rattle.lines.specs.Find.{lineLength, restLines}
 use Rattle.lines.proofs.Entries.{rest-of}
-use Rattle.text.specs.Keys.{numberLine, tabletsKey}
-use Rattle.text.specs.Events.{withNumber}
+use Rattle.loglines.specs.Keys.{numberLine, tabletsKey}
+use Rattle.loglines.specs.Events.{withNumber}
 use Rattle.text.specs.Reading.{ReadOutcome, refused, nothingRead, freshRecord, readOn, reading, ReadReady}
-use Rattle.text.proofs.Lines.{with-value, with-fault}
+use Rattle.loglines.proofs.Lines.{with-value, with-fault}
 
 -- the store test of a trace without events is the test of the sizes
 

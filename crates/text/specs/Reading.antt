@@ -11,11 +11,11 @@ use Rattle.model.specs.Refusals.{verdictNumber}
 use Rattle.model.specs.Store.{Store, storeOf, fullSizes, storeRefusal}
 use Rattle.store.specs.Outcomes.{appending, AppendReady}
 use Rattle.lines.specs.Find.{restLines}
-use Rattle.text.specs.declared.events.EventLines.{EventLines}
+use Rattle.loglines.specs.declared.events.EventLines.{EventLines}
 use Rattle.text.specs.declared.reading.ReadAnswer.{ReadAnswer}
 use Rattle.text.specs.declared.reading.Turn.{Turn}
-use Rattle.text.specs.Keys.{numberLine, endsHere, tabletsKey, eventsKey}
-use Rattle.text.specs.Events.{withNumber, lineBytes, eventLines}
+use Rattle.loglines.specs.Keys.{numberLine, endsHere, tabletsKey, eventsKey}
+use Rattle.loglines.specs.Events.{withNumber, lineBytes, eventLines}
 
 -- the refusal's number, 0 for none, its line, 0 where there is none to name, and the store at exit
 pub record ReadOutcome : Type 0 where

@@ -11,7 +11,7 @@ use Rattle.model.specs.Follow.{tally, columnAt, eventAt}
 use Rattle.model.specs.Store.{Store, clocksOf, heldOf, storeRefusal}
 use Rattle.pieces.specs.Lines.{keyLine, listLine}
 use Rattle.text.specs.declared.WriteAnswer.{WriteAnswer}
-use Rattle.text.specs.Keys.{tabletsKey, tabletKey, clockKey, heldKey, eventsKey}
+use Rattle.loglines.specs.Keys.{tabletsKey, tabletKey, clockKey, heldKey, eventsKey}
 
 -- the three lines of an event
 abbrev pub threeLines : ℕ → List ℕ → ℕ → List ℕ

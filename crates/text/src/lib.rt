@@ -1,19 +1,16 @@
 // The trace text: a text is read into the caller's three buffers, and a store is written as text, piece by piece.
-mod events;
-pub mod keys;
-pub mod reader;
 pub mod reading;
 mod writing;
 
-use keys::TABLETS;
-use keys::number_line;
 use lines::numbers::Number;
+use loglines::keys::TABLETS;
+use loglines::keys::number_line;
+use loglines::reader::first_line;
 use model::Position;
 use model::Record;
 use model::Refusal;
 use model::Verdict;
 use pieces::copy_out;
-use reader::first_line;
 use reading::ReadAnswer;
 use reading::read_events;
 use reading::refused_at;

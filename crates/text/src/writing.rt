@@ -1,10 +1,10 @@
 // One piece of the text of a store: the `tablets` line, the three lines of an event, or the `events` line. It is put together
 // by value first, so that an output that is too short for it is left as it was.
-use crate::keys::CLOCK;
-use crate::keys::EVENTS;
-use crate::keys::HELD;
-use crate::keys::TABLET;
-use crate::keys::TABLETS;
+use loglines::keys::CLOCK;
+use loglines::keys::EVENTS;
+use loglines::keys::HELD;
+use loglines::keys::TABLET;
+use loglines::keys::TABLETS;
 use model::Record;
 use pieces::Piece;
 use pieces::empty_piece;

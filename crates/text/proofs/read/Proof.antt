@@ -14,9 +14,9 @@ use Rattle.lines.specs.Find.{lineLength}
 use Rattle.lines.specs.declared.numbers.Number.the-variants.{Value}
 use Rattle.text.proofs.Opening.{sizes-fit, sizes-short, fresh-store, opened-fits, opened-not, opened-fresh, reading-short, reading-faulty, reading-width, reading-rest}
 use Rattle.text.proofs.Turns.{answer-refused}
-use Rattle.text.proofs.Lines.{number-inside, value-limit}
+use Rattle.loglines.proofs.Lines.{number-inside, value-limit}
 use Rattle.text.specs.Reading.{ReadReady, freshRecord}
-use Rattle.text.specs.Keys.{numberLine, tabletsKey}
+use Rattle.loglines.specs.Keys.{numberLine, tabletsKey}
 use Rattle.text.proofs.read.Statement.{statement}
 use Rattle.text.proofs.read.Tie as tie
 

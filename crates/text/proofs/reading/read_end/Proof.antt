@@ -6,8 +6,8 @@ use Rattle.model.specs.Store.{storeOf}
 use Rattle.model.specs.declared.Refusal.the-variants.{FaultyLine}
 use Rattle.lines.specs.declared.numbers.Number.the-variants.{Value}
 use Rattle.text.proofs.Turns.{answer-refused, ending-fault, ending-other, ending-more, ending-done}
-use Rattle.text.proofs.Lines.{number-inside}
-use Rattle.text.specs.Keys.{numberLine, eventsKey}
+use Rattle.loglines.proofs.Lines.{number-inside}
+use Rattle.loglines.specs.Keys.{numberLine, eventsKey}
 use Rattle.text.proofs.reading.read_end.Statement.{statement}
 use Rattle.text.proofs.reading.read_end.Tie as tie
 

@@ -14,7 +14,7 @@ use Rattle.store.specs.Outcomes.{AppendReady}
 use Rattle.lines.proofs.Entries.{rest-of}
 use Rattle.text.specs.Reading.{ending, readOn, turn, turned}
 use Rattle.text.proofs.Turns.{fresh-ready, on-used, on-again, stop-here, on-line, step-end}
-use Rattle.text.specs.Keys.{endsHere}
+use Rattle.loglines.specs.Keys.{endsHere}
 use Rattle.text.proofs.reading.read_events.Statement.{statement}
 use Rattle.text.proofs.reading.read_events.Tie as tie
 

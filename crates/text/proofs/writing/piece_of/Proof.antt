@@ -7,7 +7,7 @@ use Rattle.pieces.specs.Lines.{keyLine}
 use Rattle.pieces.specs.Pieces.{grown, emptyPiece}
 use Rattle.pieces.proofs.Putting.{put-length, empty-length, put-empty}
 use Rattle.text.proofs.Pieces.{piece-first, piece-event, piece-last, tablets-line, events-line}
-use Rattle.text.specs.Keys.{tabletsKey, eventsKey}
+use Rattle.loglines.specs.Keys.{tabletsKey, eventsKey}
 use Rattle.text.proofs.writing.piece_of.Statement.{statement}
 use Rattle.text.proofs.writing.piece_of.Tie as tie
 

@@ -7,7 +7,7 @@ use lib.ListN.{length, take}
 use Rattle.pieces.specs.Lines.{keyLine, listLine}
 use Rattle.pieces.proofs.Lengths.{small-take}
 use Rattle.pieces.proofs.Putting.{put-length, empty-length}
-use Rattle.text.specs.Keys.{tabletKey, clockKey, heldKey}
+use Rattle.loglines.specs.Keys.{tabletKey, clockKey, heldKey}
 use Rattle.text.proofs.Pieces.{tablet-line, clock-line, held-line, lines-put}
 use Rattle.text.proofs.writing.three_lines.Statement.{statement}
 use Rattle.text.proofs.writing.three_lines.Tie as tie
