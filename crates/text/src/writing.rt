@@ -10,7 +10,7 @@ use pieces::Piece;
 use pieces::empty_piece;
 use pieces::put_line;
 use pieces::put_list;
-use store::inner::slot_of;
+use rules::clocks::slot_of;
 ghost use mathlib.Core.Path.{_≡_};
 ghost use Prim.Native.Nat.{_-_, _≤_};
 ghost use lib.ListN.{length, take};

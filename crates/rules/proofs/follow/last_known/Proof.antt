@@ -1,7 +1,7 @@
 -- `last_known` chooses by the tablet.
 use borrow.Author.Tests.{eq-eqb, ne-eqb}
-use Rattle.store.proofs.follow.last_known.Statement.{statement}
-use Rattle.store.proofs.follow.last_known.Tie as tie
+use Rattle.rules.proofs.follow.last_known.Statement.{statement}
+use Rattle.rules.proofs.follow.last_known.Tie as tie
 
 returns : tie.Need-returns
 returns c = simp (ne-eqb _ _ (c .if1 .taken))

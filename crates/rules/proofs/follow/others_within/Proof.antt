@@ -9,8 +9,8 @@ use Rattle.model.specs.Lists.{at, allBelow}
 use Rattle.model.specs.Follow.{entryFits, othersWithin}
 use Rattle.model.proofs.Tests.{allBelow-more, allBelow-stop}
 use borrow.Author.Needs.{needs}
-use Rattle.store.proofs.follow.others_within.Statement.{statement}
-use Rattle.store.proofs.follow.others_within.Tie as tie
+use Rattle.rules.proofs.follow.others_within.Statement.{statement}
+use Rattle.rules.proofs.follow.others_within.Tie as tie
 
 abbrev entry : ℕ → ℕ → List ℕ → List ℕ → ℕ → Bool
 entry n own tallies clock i = entryFits n own i (at tallies i) (at clock i)

@@ -2,8 +2,8 @@
 use native.Mathlib.Omega.{arith}
 use Rattle.model.specs.Numbers.{slot}
 use borrow.Author.Needs.{needs}
-use Rattle.store.proofs.inner.slot_of.Statement.{statement}
-use Rattle.store.proofs.inner.slot_of.Tie as tie
+use Rattle.rules.proofs.clocks.slot_of.Statement.{statement}
+use Rattle.rules.proofs.clocks.slot_of.Tie as tie
 
 mul-result : tie.Need-mul-result
 mul-result c = search needs

@@ -2,8 +2,8 @@
 use borrow.Author.Tests.{eq-eqb, ne-eqb, lt-ltb, le-ltb, le-leb, lt-leb}
 use Rattle.model.specs.Follow.{tabletRefusal}
 use borrow.Author.Needs.{needs}
-use Rattle.store.proofs.follow.tablet_verdict.Statement.{statement}
-use Rattle.store.proofs.follow.tablet_verdict.Tie as tie
+use Rattle.rules.proofs.follow.tablet_verdict.Statement.{statement}
+use Rattle.rules.proofs.follow.tablet_verdict.Tie as tie
 
 returns : tie.Need-returns
 unfolding tabletRefusal

@@ -10,8 +10,8 @@ use Rattle.model.specs.Lists.{at, allBelow}
 use Rattle.model.specs.Clocks.{clockAt, covered, known}
 use Rattle.model.specs.Follow.{lastKnown, covers}
 use Rattle.model.proofs.Tests.{allBelow-more, allBelow-stop}
-use Rattle.store.proofs.follow.covers_known.Statement.{statement}
-use Rattle.store.proofs.follow.covers_known.Tie as tie
+use Rattle.rules.proofs.follow.covers_known.Statement.{statement}
+use Rattle.rules.proofs.follow.covers_known.Tie as tie
 
 abbrev one : List ℕ → ℕ → List ℕ → List ℕ → ℕ → Bool
 one clocks own tallies clock i = covered (known (clockAt clocks) i (lastKnown own i (at tallies i) (at clock i))) clock

@@ -8,8 +8,8 @@ use Rattle.model.specs.Clocks.{clockIn, clockAt, covered, known}
 use Rattle.model.proofs.Entries.{zeros-covered}
 use Rattle.model.proofs.Ranges.{known-event}
 use borrow.Author.Needs.{needs}
-use Rattle.store.proofs.inner.known_covered.Statement.{statement}
-use Rattle.store.proofs.inner.known_covered.Tie as tie
+use Rattle.rules.proofs.clocks.known_covered.Statement.{statement}
+use Rattle.rules.proofs.clocks.known_covered.Tie as tie
 
 returns : tie.Need-returns
 returns c =

@@ -1,7 +1,7 @@
 -- `entry_fits`: each return is one way through the rule.
 use borrow.Author.Tests.{eq-eqb, ne-eqb, lt-ltb, le-ltb}
-use Rattle.store.proofs.follow.entry_fits.Statement.{statement}
-use Rattle.store.proofs.follow.entry_fits.Tie as tie
+use Rattle.rules.proofs.follow.entry_fits.Statement.{statement}
+use Rattle.rules.proofs.follow.entry_fits.Tie as tie
 
 returns : tie.Need-returns
 returns c = simp (eq-eqb _ _ (c .if1 .taken))

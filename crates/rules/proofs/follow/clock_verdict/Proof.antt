@@ -6,8 +6,8 @@ use Rattle.model.specs.Follow.{othersWithin, clockRefusal}
 use Rattle.model.proofs.Tests.{from-true}
 use Rattle.model.proofs.Follow.{last-known-bounded}
 use borrow.Author.Needs.{needs}
-use Rattle.store.proofs.follow.clock_verdict.Statement.{statement}
-use Rattle.store.proofs.follow.clock_verdict.Tie as tie
+use Rattle.rules.proofs.follow.clock_verdict.Statement.{statement}
+use Rattle.rules.proofs.follow.clock_verdict.Tie as tie
 
 shared-slice-read-if1 : tie.Need-shared-slice-read-if1
 shared-slice-read-if1 c = search needs

@@ -10,8 +10,8 @@ use Rattle.model.specs.Lists.{at, allBelow}
 use Rattle.model.specs.Clocks.{clockIn, covered}
 use Rattle.model.proofs.Tests.{allBelow-more, allBelow-stop}
 use Rattle.model.proofs.Slots.{at-clock}
-use Rattle.store.proofs.clocks.covered_at.Statement.{statement}
-use Rattle.store.proofs.clocks.covered_at.Tie as tie
+use Rattle.rules.proofs.clocks.covered_at.Statement.{statement}
+use Rattle.rules.proofs.clocks.covered_at.Tie as tie
 
 abbrev entry : List ℕ → ℕ → List ℕ → ℕ → Bool
 entry clocks slot clock i = leb (at (clockIn clocks slot) i) (at clock i)

@@ -1,6 +1,6 @@
 // The rules of following, in document 01's order: 4 and 8 by the tablet, 5, 6 and 7 by the clock.
-use crate::inner::known_covered;
-use crate::inner::slot_of;
+use crate::clocks::known_covered;
+use crate::clocks::slot_of;
 use model::Refusal;
 use model::Verdict;
 ghost use mathlib.Core.Path.{_≡_};
@@ -10,9 +10,9 @@ ghost use Rattle.model.specs.Lists.{at};
 ghost use Rattle.model.specs.Refusals.{verdictNumber};
 ghost use Rattle.model.specs.Clocks.{clockAt};
 ghost use Rattle.model.specs.Follow.{tabletRefusal, entryFits, othersWithin, lastKnown, covers, clockRefusal, followRefusal};
-ghost use Rattle.store.specs.Reading.{Bounded, Comparable, Readable};
+ghost use Rattle.rules.specs.Reading.{Bounded, Comparable, Readable};
 
-pub(crate) fn tablet_verdict(n: u8, tallies: [u8; 8], tablet: u8) -> Verdict
+fn tablet_verdict(n: u8, tallies: [u8; 8], tablet: u8) -> Verdict
     requires { ⌜ n ≤ 8 ⌝ }
     ensures { λ r. ⌜ verdictNumber r ≡ tabletRefusal n tallies tablet ⌝ }
 {
@@ -80,13 +80,7 @@ fn covers_known(clocks: &[u8], tallies: [u8; 8], own: usize, clock: &[u8]) -> bo
     true
 }
 
-pub(crate) fn clock_verdict(
-    n: usize,
-    clocks: &[u8],
-    tallies: [u8; 8],
-    own: usize,
-    clock: &[u8],
-) -> Verdict
+fn clock_verdict(n: usize, clocks: &[u8], tallies: [u8; 8], own: usize, clock: &[u8]) -> Verdict
     requires { ⌜ Comparable (now clocks) tallies (now clock) × (own < 8) × (at tallies own < 254) ⌝ }
     ensures { λ r. ⌜ verdictNumber r ≡ clockRefusal n (clockAt (now (clocks .entry))) tallies own (now (clock .entry)) ⌝ }
 {
@@ -103,13 +97,7 @@ pub(crate) fn clock_verdict(
 }
 
 // An event that is offered with its clock.
-pub(crate) fn offered_verdict(
-    n: u8,
-    clocks: &[u8],
-    tallies: [u8; 8],
-    tablet: u8,
-    clock: &[u8],
-) -> Verdict
+pub fn offered_verdict(n: u8, clocks: &[u8], tallies: [u8; 8], tablet: u8, clock: &[u8]) -> Verdict
     requires { ⌜ Comparable (now clocks) tallies (now clock) × (n ≤ 8) ⌝ }
     ensures { λ r. ⌜ verdictNumber r ≡ followRefusal n (clockAt (now (clocks .entry))) tallies tablet (now (clock .entry)) ⌝ }
 {
@@ -124,7 +112,7 @@ pub(crate) fn offered_verdict(
 }
 
 // An event that is stored: its clock is compared where it lies.
-pub(crate) fn stored_verdict(n: u8, clocks: &[u8], tallies: [u8; 8], tablet: u8) -> Verdict
+pub fn stored_verdict(n: u8, clocks: &[u8], tallies: [u8; 8], tablet: u8) -> Verdict
     requires { ⌜ (16256 ≤ length (now clocks)) × Bounded tallies × (n ≤ 8) ⌝ }
     ensures { λ r. ⌜ verdictNumber r ≡ followRefusal n (clockAt (now (clocks .entry))) tallies tablet (clockAt (now (clocks .entry)) (tablet - 1) (at tallies (tablet - 1) + 1)) ⌝ }
 {
