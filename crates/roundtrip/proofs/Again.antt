@@ -45,7 +45,7 @@ use Rattle.loglines.specs.Events.{lineBytes, eventLines}
 use Rattle.text.specs.Reading.{ReadOutcome, TurnOutcome, turn, readOn, reading, freshRecord}
 use Rattle.pieces.specs.Lines.{keyLine, listLine}
 use Rattle.pieces.proofs.Lengths.{small-take}
-use Rattle.text.specs.Writing.{eventText, textOf}
+use Rattle.writer.specs.Writing.{eventText, textOf}
 use Rattle.text.proofs.Turns.{event-said, turn-offered, ending-done, step-end, step-on}
 use Rattle.text.proofs.Opening.{fresh-store, reading-goes}
 use Rattle.roundtrip.proofs.Back.{key-line-then, clock-text-then, piecesFrom, text-from}

@@ -38,11 +38,11 @@ use Rattle.loglines.specs.Keys.{numberLine, clockLine, endsHere, tabletsKey, ta
 use Rattle.loglines.specs.Events.{lineBytes, eventLines}
 use Rattle.text.specs.Reading.{ReadOutcome, refused, ending, turn, readFrom, readOn, reading, freshRecord}
 use Rattle.pieces.specs.Lines.{keyLine, listLine}
-use Rattle.text.specs.Writing.{eventText, piecesTo, textOf}
+use Rattle.writer.specs.Writing.{eventText, piecesTo, textOf}
 use Rattle.loglines.proofs.Lines.{number-filled}
 use Rattle.text.proofs.Turns.{EventBack, event-back, TurnPassed, turn-passed, ending-fault, ending-other, ending-more, ending-done}
 use Rattle.text.proofs.Opening.{fresh-store, reading-short, reading-faulty, reading-width, reading-goes}
-use Rattle.text.proofs.Pieces.{piece-first, piece-event, piece-last}
+use Rattle.writer.proofs.Pieces.{piece-first, piece-event, piece-last}
 
 -- lines, with what follows them
 

@@ -13,7 +13,7 @@ use Rattle.loglines.specs.Keys.{numberLine, clockLine, endsHere}
 use Rattle.loglines.specs.Events.{heldPart, clockPart, eventLines}
 use Rattle.text.specs.Reading.{ending, turn, readOn, reading}
 use Rattle.pieces.specs.Lines.{keyLine, listLine}
-use Rattle.text.specs.Writing.{eventText, pieceText, textOf}
+use Rattle.writer.specs.Writing.{eventText, pieceText, textOf}
 use Rattle.roundtrip.specs.Cases.{table}
 
 pub texts-as-written : T (passed table)

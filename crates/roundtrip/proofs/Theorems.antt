@@ -7,7 +7,7 @@ use Rattle.model.specs.Follow.{eventAt}
 use Rattle.model.specs.Store.{Store, fullSizes, heldOf, storeRefusal}
 use Rattle.model.specs.Agree.{AgreeTo}
 use Rattle.text.specs.Reading.{reading}
-use Rattle.text.specs.Writing.{textOf}
+use Rattle.writer.specs.Writing.{textOf}
 use Rattle.roundtrip.proofs.Back.{read-back}
 use Rattle.roundtrip.proofs.Again.{written-again}
 

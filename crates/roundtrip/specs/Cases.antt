@@ -7,7 +7,7 @@ use lib.ListN.{replicate}
 use Rattle.model.specs.Cases.{a1, day, same}
 use Rattle.loglines.specs.Keys.{tabletsKey, tabletKey, clockKey, heldKey, eventsKey}
 use Rattle.text.specs.Reading.{ReadOutcome, reading}
-use Rattle.text.specs.Writing.{textOf}
+use Rattle.writer.specs.Writing.{textOf}
 
 -- a text read into fresh buffers: the refusal, 0 for none, its line, and the record
 abbrev pub told : ReadOutcome → ℕ → ℕ → ℕ → ℕ → Bool

@@ -2,5 +2,3 @@
 pub mod Turns
 pub mod Opening
 pub mod Unique
-pub mod Counting
-pub mod Pieces

@@ -4,9 +4,9 @@ use mathlib.Core.Logic.{⊎-elim}
 use Prim.Native.Nat.{ℕ, _-_, _≤_}
 use native.Mathlib.Omega.{arith}
 use Rattle.model.specs.Follow.{tally}
-use Rattle.text.proofs.Counting.{count-own, count-other}
-use Rattle.text.proofs.writing.count_before.Statement.{statement}
-use Rattle.text.proofs.writing.count_before.Tie as tie
+use Rattle.writer.proofs.Counting.{count-own, count-other}
+use Rattle.writer.proofs.writing.count_before.Statement.{statement}
+use Rattle.writer.proofs.writing.count_before.Tie as tie
 
 abbrev Inv-loop : tie.InvT-loop
 Inv-loop order count tablet found₀ i₀ found i = (i ≤ count) × (found ≤ i) × (found ≡ tally order i (tablet - 1))

@@ -26,7 +26,7 @@ use Rattle.pieces.proofs.Growing.{put-contents, contents-length}
 use Rattle.pieces.proofs.Putting.{put-empty, put-two}
 use Rattle.pieces.proofs.Lengths.{byte-digits, half-digits, small-take, list-long, key-line-length, list-line-length}
 use Rattle.loglines.specs.Keys.{tabletsKey, tabletKey, clockKey, heldKey, eventsKey}
-use Rattle.text.specs.Writing.{threeLines, eventText, pieceText, writeRefusal, WriteOutcome, writing, Placed, Writable}
+use Rattle.writer.specs.Writing.{threeLines, eventText, pieceText, writeRefusal, WriteOutcome, writing, Placed, Writable}
 
 -- the event at a position of a sound store: where it lies, and what lies there
 module _ (s : Store) (q : ℕ) (w : Writable s q) where

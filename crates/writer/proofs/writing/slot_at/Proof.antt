@@ -4,8 +4,8 @@ use Prim.Native.Nat.{ℕ, _+_}
 use native.Mathlib.Omega.{arith}
 use Rattle.model.specs.Numbers.{slot}
 use Rattle.model.specs.Follow.{columnAt}
-use Rattle.text.proofs.writing.slot_at.Statement.{statement}
-use Rattle.text.proofs.writing.slot_at.Tie as tie
+use Rattle.writer.proofs.writing.slot_at.Statement.{statement}
+use Rattle.writer.proofs.writing.slot_at.Tie as tie
 
 shared-slice-read-tablet : tie.Need-shared-slice-read-tablet
 shared-slice-read-tablet c = c .before .before .pre .inside

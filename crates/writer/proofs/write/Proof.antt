@@ -5,9 +5,9 @@ use borrow.Author.Needs.{needs}
 use Rattle.model.proofs.Refusals.{passed-zero, refused-some}
 use Rattle.model.specs.Store.{Store, storeOf, storeRefusal}
 use Rattle.pieces.proofs.Growing.{contents-length}
-use Rattle.text.proofs.Pieces.{write-unsound, write-beyond, write-short, write-copied}
-use Rattle.text.proofs.write.Statement.{statement}
-use Rattle.text.proofs.write.Tie as tie
+use Rattle.writer.proofs.Pieces.{write-unsound, write-beyond, write-short, write-copied}
+use Rattle.writer.proofs.write.Statement.{statement}
+use Rattle.writer.proofs.write.Tie as tie
 
 abbrev st : tie.Start → Store
 st c = storeOf (c .args .«record») (c .args .clocks .now) (c .args .held .now) (c .args .order .now)

@@ -6,10 +6,10 @@ use Rattle.model.specs.Store.{Store, storeOf}
 use Rattle.pieces.specs.Lines.{keyLine}
 use Rattle.pieces.specs.Pieces.{grown, emptyPiece}
 use Rattle.pieces.proofs.Putting.{put-length, empty-length, put-empty}
-use Rattle.text.proofs.Pieces.{piece-first, piece-event, piece-last, tablets-line, events-line}
+use Rattle.writer.proofs.Pieces.{piece-first, piece-event, piece-last, tablets-line, events-line}
 use Rattle.loglines.specs.Keys.{tabletsKey, eventsKey}
-use Rattle.text.proofs.writing.piece_of.Statement.{statement}
-use Rattle.text.proofs.writing.piece_of.Tie as tie
+use Rattle.writer.proofs.writing.piece_of.Statement.{statement}
+use Rattle.writer.proofs.writing.piece_of.Tie as tie
 
 abbrev st : tie.Start → Store
 st c = storeOf (c .args .«record») (c .args .clocks .now) (c .args .held .now) (c .args .order .now)

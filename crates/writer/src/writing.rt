@@ -18,7 +18,7 @@ ghost use Rattle.model.specs.Numbers.{slot};
 ghost use Rattle.model.specs.Follow.{tally, columnAt, eventAt};
 ghost use Rattle.model.specs.Store.{storeOf, storeRefusal};
 ghost use Rattle.pieces.specs.Pieces.{grown, emptyPiece};
-ghost use Rattle.text.specs.Writing.{threeLines, eventText, pieceText, Placed, Writable};
+ghost use Rattle.writer.specs.Writing.{threeLines, eventText, pieceText, Placed, Writable};
 
 // How many of the first `count` order bytes name a tablet.
 fn count_before(order: &[u8], count: usize, tablet: u8) -> usize

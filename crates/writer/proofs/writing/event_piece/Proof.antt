@@ -4,9 +4,9 @@ use native.Mathlib.Omega.{arith}
 use borrow.Author.Needs.{needs}
 use Rattle.model.specs.Store.{Store, storeOf}
 use Rattle.pieces.specs.Pieces.{grown, emptyPiece}
-use Rattle.text.proofs.Pieces.{placed, widths, home-low, clock-inside, held-inside, part-long, event-text}
-use Rattle.text.proofs.writing.event_piece.Statement.{statement}
-use Rattle.text.proofs.writing.event_piece.Tie as tie
+use Rattle.writer.proofs.Pieces.{placed, widths, home-low, clock-inside, held-inside, part-long, event-text}
+use Rattle.writer.proofs.writing.event_piece.Statement.{statement}
+use Rattle.writer.proofs.writing.event_piece.Tie as tie
 
 abbrev st : tie.Start → Store
 st c = storeOf (c .args .«record») (c .args .clocks .now) (c .args .held .now) (c .args .order .now)

@@ -10,7 +10,7 @@ use Rattle.model.specs.Clocks.{clockOf}
 use Rattle.model.specs.Follow.{tally, columnAt, eventAt}
 use Rattle.model.specs.Store.{Store, clocksOf, heldOf, storeRefusal}
 use Rattle.pieces.specs.Lines.{keyLine, listLine}
-use Rattle.text.specs.declared.WriteAnswer.{WriteAnswer}
+use Rattle.writer.specs.declared.WriteAnswer.{WriteAnswer}
 use Rattle.loglines.specs.Keys.{tabletsKey, tabletKey, clockKey, heldKey, eventsKey}
 
 -- the three lines of an event

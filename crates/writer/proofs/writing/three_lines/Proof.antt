@@ -8,9 +8,9 @@ use Rattle.pieces.specs.Lines.{keyLine, listLine}
 use Rattle.pieces.proofs.Lengths.{small-take}
 use Rattle.pieces.proofs.Putting.{put-length, empty-length}
 use Rattle.loglines.specs.Keys.{tabletKey, clockKey, heldKey}
-use Rattle.text.proofs.Pieces.{tablet-line, clock-line, held-line, lines-put}
-use Rattle.text.proofs.writing.three_lines.Statement.{statement}
-use Rattle.text.proofs.writing.three_lines.Tie as tie
+use Rattle.writer.proofs.Pieces.{tablet-line, clock-line, held-line, lines-put}
+use Rattle.writer.proofs.writing.three_lines.Statement.{statement}
+use Rattle.writer.proofs.writing.three_lines.Tie as tie
 
 tablet-long : (c : tie.Start) → length (keyLine tabletKey (c .args .tablet)) ≤ 11
 tablet-long c = tablet-line (c .args .tablet) (omega arith)
