@@ -11,11 +11,11 @@ use Rattle.lines.specs.Find.{lineLength, valueBehind}
 use Rattle.lines.specs.Lists.{notListed, listed}
 use Rattle.loglines.specs.Keys.{numberLine, clockLine, endsHere}
 use Rattle.loglines.specs.Events.{heldPart, clockPart, eventLines}
-use Rattle.text.specs.Reading.{ending, turn, readOn, reading}
+use Rattle.text.specs.Reading.{ending, turn, readOn, beginning, reading}
 use Rattle.pieces.specs.Lines.{keyLine, listLine}
 use Rattle.writer.specs.Writing.{eventText, pieceText, textOf}
 use Rattle.roundtrip.specs.Cases.{table}
 
 pub texts-as-written : T (passed table)
-unfolding eight zeros slot clockIn covered tallies tabletRefusal othersWithin covers clockRefusal followRefusal accepted eventRefusal decimal plain digitsFrom number lineLength valueBehind notListed listed numberLine clockLine endsHere heldPart clockPart eventLines ending turn readOn reading keyLine listLine eventText pieceText textOf
+unfolding eight zeros slot clockIn covered tallies tabletRefusal othersWithin covers clockRefusal followRefusal accepted eventRefusal decimal plain digitsFrom number lineLength valueBehind notListed listed numberLine clockLine endsHere heldPart clockPart eventLines ending turn readOn beginning reading keyLine listLine eventText pieceText textOf
 texts-as-written = tt
