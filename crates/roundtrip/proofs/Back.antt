@@ -46,19 +46,19 @@ use Rattle.writer.proofs.Pieces.{piece-first, piece-event, piece-last}
 
 -- lines, with what follows them
 
+line-then : (key middle rest : List ℕ) → (key ++ (middle ++ (10 ∷ []))) ++ rest ≡ (key ++ middle) ++ (10 ∷ rest)
+line-then key middle rest =
+    append-assoc key (middle ++ (10 ∷ [])) rest
+    ∙ ap (λ (l : List ℕ). key ++ l) (append-assoc middle (10 ∷ []) rest)
+    ∙ sym (append-assoc key middle (10 ∷ rest))
+
 pub key-line-then : (key : List ℕ) (v : ℕ) (rest : List ℕ) → keyLine key v ++ rest ≡ (key ++ decimal v) ++ (10 ∷ rest)
 unfolding keyLine
-key-line-then key v rest =
-    append-assoc key (decimal v ++ (10 ∷ [])) rest
-    ∙ ap (λ (l : List ℕ). key ++ l) (append-assoc (decimal v) (10 ∷ []) rest)
-    ∙ sym (append-assoc key (decimal v) (10 ∷ rest))
+key-line-then key v rest = line-then key (decimal v) rest
 
 pub clock-text-then : (vs rest : List ℕ) → listLine clockKey vs ++ rest ≡ (clockKey ++ commaList vs) ++ (10 ∷ rest)
 unfolding listLine
-clock-text-then vs rest =
-    append-assoc clockKey (commaList vs ++ (10 ∷ [])) rest
-    ∙ ap (λ (l : List ℕ). clockKey ++ l) (append-assoc (commaList vs) (10 ∷ []) rest)
-    ∙ sym (append-assoc clockKey (commaList vs) (10 ∷ rest))
+clock-text-then vs rest = line-then clockKey (commaList vs) rest
 
 pub number-line-back : (key : List ℕ) (limit : ℕ) (text : List ℕ) (v : ℕ) → numberLine key limit text ≡ Value v → text ≡ keyLine key v ++ restLines text
 unfolding numberLine

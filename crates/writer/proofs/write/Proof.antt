@@ -25,7 +25,9 @@ enum-told-2 : tie.Need-enum-told-2
 enum-told-2 c = search needs
 
 returns : tie.Need-returns
-returns c = write-unsound (st (c .before .before .before .before .before .before .before)) (c .before .before .before .before .before .before .before .args .piece .0) (c .before .before .before .before .before .before .before .args .out .now) _ (c .before .before .check .ensures) (refused-some (c .before .before .check .result) _ _ (c .before .before .check .ensures) (c .enum-told2 .given .1))
+returns c =
+    let s = c .before .before .before .before .before .before .before in
+    write-unsound (st s) (s .args .piece .0) (s .args .out .now) _ (c .before .before .check .ensures) (refused-some (c .before .before .check .result) _ _ (c .before .before .check .ensures) (c .enum-told2 .given .1))
 
 cast-at : tie.Need-cast-at
 cast-at c = search needs
@@ -37,13 +39,17 @@ add-last : tie.Need-add-last
 add-last c = search needs
 
 returns-2 : tie.Need-returns-2
-returns-2 c = write-beyond (st (c .before .before .before .before .before .before .before .before .before .before)) (c .before .before .before .before .before .before .before .before .before .before .args .piece .0) (c .before .before .before .before .before .before .before .before .before .before .args .out .now) (sound-is (c .before .before .before)) (c .if1 .taken)
+returns-2 c =
+    let s = c .before .before .before .before .before .before .before .before .before .before in
+    write-beyond (st s) (s .args .piece .0) (s .args .out .now) (sound-is (c .before .before .before)) (c .if1 .taken)
 
 piece-of-requires : tie.Need-piece-of-requires
 piece-of-requires c κs = sound-is (c .before .before .before)
 
 returns-3 : tie.Need-returns-3
-returns-3 c = write-short (st (c .before .before .before .before .before .before .before .before .before .before .before .before)) (c .before .before .before .before .before .before .before .before .before .before .before .before .args .piece .0) (c .before .before .before .before .before .before .before .before .before .before .before .before .args .out .now) (sound-is (c .before .before .before .before .before)) (c .before .before .if1 .left) (omega (arith, contents-length (c .before .piece-of .result) _ (c .before .piece-of .ensures .0), c .if2 .taken))
+returns-3 c =
+    let s = c .before .before .before .before .before .before .before .before .before .before .before .before in
+    write-short (st s) (s .args .piece .0) (s .args .out .now) (sound-is (c .before .before .before .before .before)) (c .before .before .if1 .left) (omega (arith, contents-length (c .before .piece-of .result) _ (c .before .piece-of .ensures .0), c .if2 .taken))
 
 copy-out-requires : tie.Need-copy-out-requires
 copy-out-requires c κs = (c .before .before .piece-of .ensures .1, c .before .if2 .left)
@@ -52,7 +58,9 @@ same-length : tie.Need-same-length
 same-length c = search needs
 
 returns-4 : tie.Need-returns-4
-returns-4 c = write-copied (st (c .before .before .before .before .before .before .before .before .before .before .before .before .before .before .before .before)) (c .before .before .before .before .before .before .before .before .before .before .before .before .before .before .before .before .args .piece .0) (c .before .before .before .before .before .before .before .before .before .before .before .before .before .before .before .before .args .out .now) (sound-is (c .before .before .before .before .before .before .before .before .before)) (c .before .before .before .before .before .before .if1 .left) (c .before .before .before .before .before .piece-of .result) _ (c .before .before .before .before .before .piece-of .ensures .0) (c .before .before .before .before .before .piece-of .ensures .1) (c .before .before .before .before .if2 .left) (c .before .before .copy-out .ensures)
+returns-4 c =
+    let s = c .before .before .before .before .before .before .before .before .before .before .before .before .before .before .before .before in
+    write-copied (st s) (s .args .piece .0) (s .args .out .now) (sound-is (c .before .before .before .before .before .before .before .before .before)) (c .before .before .before .before .before .before .if1 .left) (c .before .before .before .before .before .piece-of .result) _ (c .before .before .before .before .before .piece-of .ensures .0) (c .before .before .before .before .before .piece-of .ensures .1) (c .before .before .before .before .if2 .left) (c .before .before .copy-out .ensures)
 
 pub write-spec : {M : Type 1} → statement M
 write-spec =
