@@ -70,22 +70,6 @@ decimal-tens (suc n) h =
 pub tens-length : (n : ℕ) → 10 ≤ n → length (decimal n) ≡ length (decimal (n / 10)) + 1
 tens-length n h = ap length (decimal-tens n h) ∙ length-append (decimal (n / 10)) ((48 + n % 10) ∷ [])
 
--- how many digits a number has at most
-
-short-1 : (n : ℕ) → n < 10 → length (decimal n) ≤ 1
-short-1 n h = omega (arith, ap length (decimal-digit n h))
-
-one-longer : (k n : ℕ) → 1 ≤ k → (length (decimal (n / 10)) ≤ k) → length (decimal n) ≤ k + 1
-one-longer k n some h =
-    by-cases (decLt n 10) (λ low. omega (arith, ap length (decimal-digit n low)))
-    (λ high. omega (arith, tens-length n (omega arith)))
-
-pub short-3 : (n : ℕ) → n < 1000 → length (decimal n) ≤ 3
-short-3 n h = one-longer 2 n (omega arith) (one-longer 1 (n / 10) (omega arith) (short-1 (n / 10 / 10) (omega arith)))
-
-pub short-5 : (n : ℕ) → n < 100000 → length (decimal n) ≤ 5
-short-5 n h = one-longer 4 n (omega arith) (one-longer 3 (n / 10) (omega arith) (short-3 (n / 10 / 10) (omega arith)))
-
 -- going back: a text that is a number has only digits, no leading zero, and a value within the limit
 
 faulty-never : (v : ℕ) → Faulty ≡ Value v → ⊥

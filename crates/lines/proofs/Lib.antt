@@ -2,5 +2,4 @@
 pub mod Decimals
 pub mod Parts
 pub mod Entries
-pub mod Growing
 pub mod Unique

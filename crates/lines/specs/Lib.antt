@@ -1,5 +1,4 @@
--- Document 01, "Trace text": numbers, lists, lines and keys, as definitions that compute, and the bytes that are written.
+-- Document 01, "Trace text": numbers, lists, lines and keys, as definitions that compute.
 pub mod Numbers
 pub mod Find
 pub mod Lists
-pub mod Pieces

@@ -1,14 +1,11 @@
 -- No second outcome satisfies a contract: the answers, the records and the buffers at exit are fixed by what the public
 -- calls promise.
 use mathlib.Core.Path.{_≡_, sym, ap, _∙_}
-use mathlib.Core.Bool.{Bool}
 use mathlib.Core.List.{List}
 use Prim.Native.Nat.{ℕ}
 use lib.Seq.{sets}
 use Rattle.model.specs.declared.Event.{Event}
 use Rattle.model.specs.declared.Verdict.{Verdict}
-use Rattle.model.specs.Numbers.{slot}
-use Rattle.model.specs.Clocks.{clockAt, covered, known}
 use Rattle.model.specs.Refusals.{verdictNumber}
 use Rattle.model.specs.Store.{Store, storeRefusal}
 use Rattle.model.proofs.Refusals.{verdict-unique}
@@ -53,12 +50,6 @@ append-unique s e a b clocks held order bytes numbers tablets p q =
       ap (λ (o : Outcome). o .store .held) same,
       ap (λ (o : Outcome). o .store .order) same,
     )
-
-pub slot-of-unique : (j k a b : ℕ) → a ≡ slot j k → b ≡ slot j k → a ≡ b
-slot-of-unique j k a b p q = p ∙ sym q
-
-pub known-covered-unique : (clocks : List ℕ) (j k : ℕ) (clock : List ℕ) (a b : Bool) → a ≡ covered (known (clockAt clocks) j k) clock → b ≡ covered (known (clockAt clocks) j k) clock → a ≡ b
-known-covered-unique clocks j k clock a b p q = p ∙ sym q
 
 pub write-eight-unique : (bytes : List ℕ) (from : ℕ) (eight a b : List ℕ) → a ≡ sets bytes from eight → b ≡ sets bytes from eight → a ≡ b
 write-eight-unique bytes from eight a b p q = p ∙ sym q

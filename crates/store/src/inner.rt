@@ -1,40 +1,18 @@
-// For the layers above: where an event lies, comparing and writing eight bytes, and an append that does not test the store again. Its caller keeps what it asks
+// For the layers above: writing eight bytes, and an append that does not test the store again. Its caller keeps what it asks
 // as an invariant, so that reading a text of 1,700 events does not test the store 1,700 times.
-use crate::clocks::covered_at;
-use crate::follow::offered_verdict;
 use crate::writing::write_event;
 use model::Event;
 use model::Record;
 use model::Verdict;
+pub use rules::clocks::known_covered;
+pub use rules::clocks::slot_of;
+use rules::follow::offered_verdict;
 ghost use mathlib.Core.Path.{_≡_};
-ghost use Prim.Native.Nat.{_+_, _≤_, _<_};
+ghost use Prim.Native.Nat.{_+_, _≤_};
 ghost use lib.ListN.{length};
 ghost use lib.Seq.{sets};
-ghost use Rattle.model.specs.Numbers.{slot};
-ghost use Rattle.model.specs.Clocks.{clockAt, covered, known};
 ghost use Rattle.model.specs.Store.{storeOf};
 ghost use Rattle.store.specs.Outcomes.{AppendReady, appended, AppendedTo};
-
-// The slot of event k of the tablet at index j.
-pub fn slot_of(j: usize, k: usize) -> usize
-    requires { ⌜ (j < 8) × (1 ≤ k) × (k ≤ 254) ⌝ }
-    ensures { λ r. ⌜ r ≡ slot j k ⌝ }
-{
-    j * 254 + (k - 1)
-}
-
-// Whether the clock of event k of the tablet in column j, where there is one, is at most another in each entry; no event (k
-// is 0) knows nothing.
-pub fn known_covered(clocks: &[u8], j: usize, k: u8, clock: &[u8]) -> bool
-    requires { ⌜ (j < 8) × (k ≤ 254) × (16256 ≤ length (now clocks)) × (8 ≤ length (now clock)) ⌝ }
-    ensures { λ r. ⌜ r ≡ covered (known (clockAt (now (clocks .entry))) j k) (now (clock .entry)) ⌝ }
-{
-    if k == 0 {
-        return true;
-    }
-    let at = slot_of(j, k as usize);
-    covered_at(clocks, at, clock)
-}
 
 // Eight bytes written into lent bytes: a clock into its slot, a cut into an output.
 pub fn write_eight(bytes: &mut [u8], from: usize, eight: [u8; 8])

@@ -1,8 +1,6 @@
 // The store of a trace over the caller's three buffers: opening, accepting events, checking.
 // Each public call tests all that it is given and refuses by document 01's number; what it answers and leaves in every
 // buffer is fixed by its contract for all inputs.
-mod clocks;
-mod follow;
 pub mod inner;
 mod testing;
 mod writing;

@@ -1,8 +1,8 @@
 // The store test: one pass over the order list that stops at the first fault.
-use crate::follow::stored_verdict;
 use model::Record;
 use model::Refusal;
 use model::Verdict;
+use rules::follow::stored_verdict;
 ghost use mathlib.Core.Path.{_≡_};
 ghost use Prim.Native.Nat.{_≤_};
 ghost use lib.ListN.{length};

@@ -1,10 +1,10 @@
 // The writes of an accepted event: its slot's clock and held value, and the next order byte.
 use crate::inner::Appended;
-use crate::inner::slot_of;
 use crate::inner::write_eight;
 use model::Event;
 use model::Record;
 use model::Verdict;
+use rules::clocks::slot_of;
 ghost use Rattle.model.specs.Store.{storeOf};
 ghost use Rattle.store.specs.Outcomes.{WriteReady, appended, Stored};
 

@@ -1,11 +1,4 @@
--- Laws of the definitions that the proofs of this crate's functions cite, and the theorems on reading and writing.
-pub mod Lines
+-- Laws of the definitions that the proofs of this crate's functions cite.
 pub mod Turns
 pub mod Opening
 pub mod Unique
-pub mod Putting
-pub mod Pieces
-pub mod Back
-pub mod Again
-pub mod Theorems
-pub mod Cases

@@ -23,12 +23,12 @@ use Rattle.store.proofs.Outcomes.{append-passed, append-refused}
 use Rattle.lines.specs.Find.{restLines}
 use Rattle.lines.specs.declared.numbers.Number.{Number}
 use Rattle.lines.specs.declared.numbers.Number.the-variants.{Value, Faulty}
-use Rattle.text.specs.declared.events.EventLines.{EventLines}
+use Rattle.loglines.specs.declared.events.EventLines.{EventLines}
 use Rattle.text.specs.declared.reading.ReadAnswer.{ReadAnswer}
-use Rattle.text.specs.Keys.{numberLine, clockLine, endsHere, tabletKey, heldKey, eventsKey}
-use Rattle.text.specs.Events.{withNumber, faultyEvent, lineBytes, heldPart, clockPart, eventLines}
+use Rattle.loglines.specs.Keys.{numberLine, clockLine, endsHere, tabletKey, heldKey, eventsKey}
+use Rattle.loglines.specs.Events.{withNumber, faultyEvent, lineBytes, heldPart, clockPart, eventLines}
 use Rattle.text.specs.Reading.{ReadOutcome, readOutcome, refused, ending, TurnOutcome, offered, turn, readFrom, readOn, ReadReady}
-use Rattle.text.proofs.Lines.{with-value, with-fault, number-inside, clock-inside, no-clock, clock-then}
+use Rattle.loglines.proofs.Lines.{with-value, with-fault, number-inside, clock-inside, no-clock, clock-then}
 
 -- an answer that refuses
 pub answer-refused : (a : ReadAnswer) (why : Refusal) (line : ℕ) (r : Record) (clocks held order : List ℕ) → (a .verdict ≡ Refused why) × (a .line ≡ line) × (a .«record» ≡ r) → readOutcome a clocks held order ≡ refused (numberOf why) line (storeOf r clocks held order)

@@ -6,16 +6,17 @@ use mathlib.Core.List.{List}
 use lib.Dec.{ltb, eqb}
 use lib.ListN.{length, drop}
 use Rattle.model.specs.declared.Record.{Record}
+use Rattle.model.specs.declared.Refusal.{Refusal}
 use Rattle.model.specs.Numbers.{tabletsFit}
-use Rattle.model.specs.Refusals.{verdictNumber}
+use Rattle.model.specs.Refusals.{numberOf, verdictNumber}
 use Rattle.model.specs.Store.{Store, storeOf, fullSizes, storeRefusal}
 use Rattle.store.specs.Outcomes.{appending, AppendReady}
 use Rattle.lines.specs.Find.{restLines}
-use Rattle.text.specs.declared.events.EventLines.{EventLines}
+use Rattle.loglines.specs.declared.events.EventLines.{EventLines}
 use Rattle.text.specs.declared.reading.ReadAnswer.{ReadAnswer}
 use Rattle.text.specs.declared.reading.Turn.{Turn}
-use Rattle.text.specs.Keys.{numberLine, endsHere, tabletsKey, eventsKey}
-use Rattle.text.specs.Events.{withNumber, lineBytes, eventLines}
+use Rattle.loglines.specs.Keys.{numberLine, endsHere, tabletsKey, eventsKey}
+use Rattle.loglines.specs.Events.{withNumber, lineBytes, eventLines}
 
 -- the refusal's number, 0 for none, its line, 0 where there is none to name, and the store at exit
 pub record ReadOutcome : Type 0 where
@@ -77,16 +78,28 @@ abbrev pub freshRecord : ℕ → Record
 freshRecord n = record { tablets = n; events = 0 }
 
 -- "Reading gives 2 first (line 0), then goes line by line": 12 for a faulty `tablets` line, 1 for a number of tablets that
--- opening refuses, then the events
-unfoldable pub reading : List ℕ → List ℕ → List ℕ → List ℕ → ReadOutcome
-reading text clocks held order =
+-- opening refuses, else the fresh record
+unfoldable pub beginning : List ℕ → List ℕ → List ℕ → List ℕ → ReadOutcome
+beginning text clocks held order =
     cond (fullSizes clocks held order)
     (withNumber (numberLine tabletsKey 255 text) (refused 12 1 (nothingRead clocks held order))
-    λ n. cond (tabletsFit n) (readOn (storeOf (freshRecord n) clocks held order) 2 (restLines text))
+    λ n. cond (tabletsFit n) (record { refusal = 0; line = 0; store = storeOf (freshRecord n) clocks held order })
     (refused 1 1 (nothingRead clocks held order)))
     (refused 2 0 (nothingRead clocks held order))
 
+-- then the events
+abbrev pub goingOn : List ℕ → ReadOutcome → ReadOutcome
+goingOn text o = cond (eqb (o .refusal) 0) (readOn (o .store) 2 (restLines text)) o
+
+unfoldable pub reading : List ℕ → List ℕ → List ℕ → List ℕ → ReadOutcome
+reading text clocks held order = goingOn text (beginning text clocks held order)
+
 -- What the inner functions promise.
+
+-- a refusal before a record was opened, whatever the buffers hold
+abbrev pub NothingRead : Refusal → ℕ → ReadAnswer → Type 0
+NothingRead why line a =
+    (clocks held order : List ℕ) → readOutcome a clocks held order ≡ refused (numberOf why) line (nothingRead clocks held order)
 
 -- the answer to the last line, whatever the buffers hold
 abbrev pub EndRead : Record → ℕ → List ℕ → ReadAnswer → Type 0

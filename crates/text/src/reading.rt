@@ -1,11 +1,11 @@
 // Reading behind the `tablets` line: event after event into the store, up to the `events` line. The store is tested once, by
 // the caller; what an append asks is kept as the loop's invariant.
-use crate::events::read_event;
-use crate::keys::EVENTS;
-use crate::keys::ends_here;
-use crate::keys::number_line;
-use crate::reader::first_line;
 use lines::numbers::Number;
+use loglines::events::read_event;
+use loglines::keys::EVENTS;
+use loglines::keys::ends_here;
+use loglines::keys::number_line;
+use loglines::reader::first_line;
 use model::Record;
 use model::Refusal;
 use model::Verdict;

@@ -21,7 +21,7 @@ use Rattle.store.proofs.testing.follow_all.Statement.{statement}
 use Rattle.store.proofs.testing.follow_all.Tie as tie
 use Rattle.store.proofs.testing.follow_all.Reads as reads
 use Rattle.store.proofs.testing.follow_all.Lts as lts
-use Rattle.store.proofs.follow.stored_verdict.Reads as stored-verdict-reads
+use Rattle.rules.proofs.follow.stored_verdict.Reads as stored-verdict-reads
 
 abbrev Inv-loop : tie.InvT-loop
 Inv-loop n events clocks order counts₀ p₀ counts p = (p ≤ events) × T (followTo n (clockAt clocks) order p) × (counts ≡ tallies order p)

@@ -1,20 +1,21 @@
 -- `read_events`: what is read so far and the rest of the text together read as the whole text does.
 use mathlib.Core.Path.{_≡_, refl, sym, ap, _∙_}
 use mathlib.Core.Bool.{true, false}
-use Prim.Native.Nat.{_^_, _+_, _-_, _≤_, _<_}
+use mathlib.Core.List.{List}
+use Prim.Native.Nat.{ℕ, _^_, _+_, _-_, _≤_, _<_}
 use native.Mathlib.Omega.{arith}
 use borrow.Author.Tests.{not-true, not-false}
 use borrow.Author.Needs.{needs}
 use lib.ListN.{length, drop}
 use Rattle.model.proofs.Refusals.{passed-zero, refused-some}
 use Rattle.model.specs.Refusals.{verdictNumber}
-use Rattle.model.specs.Store.{storeOf}
+use Rattle.model.specs.Store.{Store, storeOf}
 use Rattle.store.proofs.Theorems.{sound-limits}
 use Rattle.store.specs.Outcomes.{AppendReady}
 use Rattle.lines.proofs.Entries.{rest-of}
-use Rattle.text.specs.Reading.{ending, readOn, turn, turned}
+use Rattle.text.specs.Reading.{ending, readOn, turn, turned, TurnOutcome}
 use Rattle.text.proofs.Turns.{fresh-ready, on-used, on-again, stop-here, on-line, step-end}
-use Rattle.text.specs.Keys.{endsHere}
+use Rattle.loglines.specs.Keys.{endsHere}
 use Rattle.text.proofs.reading.read_events.Statement.{statement}
 use Rattle.text.proofs.reading.read_events.Tie as tie
 
@@ -24,29 +25,55 @@ Inv-loop text clocks₀ held₀ order₀ record₀ tallies₀ at₀ line₀ cloc
 abbrev μ-loop : tie.MeasureT-loop
 μ-loop text clocks₀ held₀ order₀ record₀ tallies₀ at₀ line₀ clocks held order «record» tallies at line = length text - at
 
+-- the store, the text and what is left of it, and the outcome of a turn, as the loop has them
+abbrev reached : tie.At-loop Inv-loop μ-loop → Store
+reached c = storeOf (c .loop .«record») (c .loop .clocks) (c .loop .held) (c .loop .order)
+
+abbrev whole : tie.At-loop Inv-loop μ-loop → List ℕ
+whole c = c .before .before .before .before .before .args .text .now
+
+abbrev left : tie.At-loop Inv-loop μ-loop → List ℕ
+left c = drop (c .loop .at) (whole c)
+
+abbrev turn-of : tie.After-take-event Inv-loop μ-loop → TurnOutcome
+turn-of c =
+    let t = c .take-event in
+    turned (t .result) (t .last .1 .1 .0) (t .last .1 .1 .1 .0) (t .last .1 .1 .1 .1 .0)
+
 long-enough : (c : tie.Start Inv-loop μ-loop) → length (c .args .text .now) + 8 < 2 ^ 64
 long-enough c = omega (arith, c .good .0)
 
-turn-is : (c : tie.After-take-event Inv-loop μ-loop) → turned (c .take-event .result) (c .take-event .last .1 .1 .0) (c .take-event .last .1 .1 .1 .0) (c .take-event .last .1 .1 .1 .1 .0) ≡ turn (storeOf (c .before .before .before .before .before .before .before .before .loop .«record») (c .before .before .before .before .before .before .before .before .loop .clocks) (c .before .before .before .before .before .before .before .before .loop .held) (c .before .before .before .before .before .before .before .before .loop .order)) (drop (c .before .before .before .before .before .before .before .before .loop .at) (c .before .before .before .before .before .before .before .before .before .before .before .before .before .args .text .now))
-turn-is c = c .take-event .ensures .outcome-is ∙ ap (turn (storeOf (c .before .before .before .before .before .before .before .before .loop .«record») (c .before .before .before .before .before .before .before .before .loop .clocks) (c .before .before .before .before .before .before .before .before .loop .held) (c .before .before .before .before .before .before .before .before .loop .order))) (rest-of (c .before .before .before .before .before .before .before .before .before .before .before .before .before .args .text .now) (c .before .before .before .before .before .before .before .before .loop .at))
+turn-is : (c : tie.After-take-event Inv-loop μ-loop) → turn-of c ≡ turn (reached (c .before .before .before .before .before .before .before .before)) (left (c .before .before .before .before .before .before .before .before))
+turn-is c =
+    let here = c .before .before .before .before .before .before .before .before in
+    c .take-event .ensures .outcome-is ∙ ap (turn (reached here)) (rest-of (whole here) (here .loop .at))
 
-goes-on : (c : tie.Then1 Inv-loop μ-loop) → endsHere (drop (c .before .before .before .loop .at) (c .before .before .before .before .before .before .before .before .args .text .now)) ≡ false
-goes-on c = sym (c .before .ends-here .ensures ∙ ap endsHere (rest-of (c .before .before .before .before .before .before .before .before .args .text .now) (c .before .before .before .loop .at))) ∙ not-true _ (c .if1 .taken)
+goes-on : (c : tie.Then1 Inv-loop μ-loop) → endsHere (left (c .before .before .before)) ≡ false
+goes-on c =
+    let here = c .before .before .before in
+    sym (c .before .ends-here .ensures ∙ ap endsHere (rest-of (whole here) (here .loop .at))) ∙ not-true _ (c .if1 .taken)
 
 few-events : (c : tie.At-loop Inv-loop μ-loop) → c .loop .«record» .events ≤ 2032
-few-events c = sound-limits (storeOf (c .loop .«record») (c .loop .clocks) (c .loop .held) (c .loop .order)) (c .loop .inv .2 .refusal) .0
+few-events c = sound-limits (reached c) (c .loop .inv .2 .refusal) .0
 
 passed : (c : tie.After-enum-told Inv-loop μ-loop) → verdictNumber (c .before .before .before .before .before .before .before .before .before .before .take-event .result .verdict) ≡ 0
 passed c = passed-zero (c .before .before .before .before .before .before .before .before .before .before .take-event .result .verdict) _ refl (c .enum-told .given .1)
 
-used-is : (c : tie.After-enum-told Inv-loop μ-loop) → (3 ≤ c .before .before .before .before .before .before .before .before .before .before .take-event .result .used) × (c .before .before .before .before .before .before .before .before .before .before .before .before .before .before .before .before .before .before .loop .at + c .before .before .before .before .before .before .before .before .before .before .take-event .result .used ≤ length (c .before .before .before .before .before .before .before .before .before .before .before .before .before .before .before .before .before .before .before .before .before .before .before .args .text .now))
-used-is c = on-used (storeOf (c .before .before .before .before .before .before .before .before .before .before .before .before .before .before .before .before .before .before .loop .«record») (c .before .before .before .before .before .before .before .before .before .before .before .before .before .before .before .before .before .before .loop .clocks) (c .before .before .before .before .before .before .before .before .before .before .before .before .before .before .before .before .before .before .loop .held) (c .before .before .before .before .before .before .before .before .before .before .before .before .before .before .before .before .before .before .loop .order)) (c .before .before .before .before .before .before .before .before .before .before .before .before .before .before .before .before .before .before .loop .line) (c .before .before .before .before .before .before .before .before .before .before .before .before .before .before .before .before .before .before .before .before .before .before .before .args .text .now) (c .before .before .before .before .before .before .before .before .before .before .before .before .before .before .before .before .before .before .loop .at) (turned (c .before .before .before .before .before .before .before .before .before .before .take-event .result) (c .before .before .before .before .before .before .before .before .before .before .take-event .last .1 .1 .0) (c .before .before .before .before .before .before .before .before .before .before .take-event .last .1 .1 .1 .0) (c .before .before .before .before .before .before .before .before .before .before .take-event .last .1 .1 .1 .1 .0)) (turn-is (c .before .before .before .before .before .before .before .before .before .before)) (passed c) (c .before .before .before .before .before .before .before .before .before .before .before .before .before .before .before .before .before .before .loop .inv .0)
+used-is : (c : tie.After-enum-told Inv-loop μ-loop) → (3 ≤ c .before .before .before .before .before .before .before .before .before .before .take-event .result .used) × (c .before .before .before .before .before .before .before .before .before .before .before .before .before .before .before .before .before .before .loop .at + c .before .before .before .before .before .before .before .before .before .before .take-event .result .used ≤ length (whole (c .before .before .before .before .before .before .before .before .before .before .before .before .before .before .before .before .before .before)))
+used-is c =
+    let here = c .before .before .before .before .before .before .before .before .before .before .before .before .before .before .before .before .before .before in
+    let took = c .before .before .before .before .before .before .before .before .before .before in
+    on-used (reached here) (here .loop .line) (whole here) (here .loop .at) (turn-of took) (turn-is took) (passed c) (here .loop .inv .0)
 
-ends : (c : tie.Else1 Inv-loop μ-loop) → endsHere (drop (c .before .before .before .loop .at) (c .before .before .before .before .before .before .before .before .args .text .now)) ≡ true
-ends c = sym (c .before .ends-here .ensures ∙ ap endsHere (rest-of (c .before .before .before .before .before .before .before .before .args .text .now) (c .before .before .before .loop .at))) ∙ not-false _ (c .if1 .left)
+ends : (c : tie.Else1 Inv-loop μ-loop) → endsHere (left (c .before .before .before)) ≡ true
+ends c =
+    let here = c .before .before .before in
+    sym (c .before .ends-here .ensures ∙ ap endsHere (rest-of (whole here) (here .loop .at))) ∙ not-false _ (c .if1 .left)
 
 loop-holds : tie.Need-loop-holds Inv-loop μ-loop
-loop-holds c = (omega arith, omega arith, fresh-ready (storeOf (c .before .before .before .before .args .opened) (c .before .before .before .before .args .clocks .now) (c .before .before .before .before .args .held .now) (c .before .before .before .before .args .order .now)) (c .before .before .before .before .pre), (refl, refl, refl), refl)
+loop-holds c =
+    let s = c .before .before .before .before in
+    (omega arith, omega arith, fresh-ready (storeOf (s .args .opened) (s .args .clocks .now) (s .args .held .now) (s .args .order .now)) (s .pre), (refl, refl, refl), refl)
 
 sub-ends-here : tie.Need-sub-ends-here Inv-loop μ-loop
 sub-ends-here c = search needs
@@ -79,7 +106,10 @@ enum-told-2 : tie.Need-enum-told-2 Inv-loop μ-loop
 enum-told-2 c = search needs
 
 add-t27 : tie.Need-add-t27 Inv-loop μ-loop
-add-t27 c = omega (arith, c .before .before .before .before .before .before .before .before .before .before .before .before .before .before .before .before .before .before .before .loop .inv .0, c .before .before .before .before .before .before .before .before .before .before .before .before .before .before .before .before .before .before .before .loop .inv .1, long-enough (c .before .before .before .before .before .before .before .before .before .before .before .before .before .before .before .before .before .before .before .before .before .before .before .before), on-line (storeOf (c .before .before .before .before .before .before .before .before .before .before .before .before .before .before .before .before .before .before .before .loop .«record») (c .before .before .before .before .before .before .before .before .before .before .before .before .before .before .before .before .before .before .before .loop .clocks) (c .before .before .before .before .before .before .before .before .before .before .before .before .before .before .before .before .before .before .before .loop .held) (c .before .before .before .before .before .before .before .before .before .before .before .before .before .before .before .before .before .before .before .loop .order)) (c .before .before .before .before .before .before .before .before .before .before .before .before .before .before .before .before .before .before .before .loop .line) (c .before .before .before .before .before .before .before .before .before .before .before .before .before .before .before .before .before .before .before .before .before .before .before .before .args .text .now) (c .before .before .before .before .before .before .before .before .before .before .before .before .before .before .before .before .before .before .before .loop .at) (turned (c .before .before .before .before .before .before .before .before .before .before .before .take-event .result) (c .before .before .before .before .before .before .before .before .before .before .before .take-event .last .1 .1 .0) (c .before .before .before .before .before .before .before .before .before .before .before .take-event .last .1 .1 .1 .0) (c .before .before .before .before .before .before .before .before .before .before .before .take-event .last .1 .1 .1 .1 .0)) (turn-is (c .before .before .before .before .before .before .before .before .before .before .before)))
+add-t27 c =
+    let here = c .before .before .before .before .before .before .before .before .before .before .before .before .before .before .before .before .before .before .before in
+    let took = c .before .before .before .before .before .before .before .before .before .before .before in
+    omega (arith, here .loop .inv .0, here .loop .inv .1, long-enough (c .before .before .before .before .before .before .before .before .before .before .before .before .before .before .before .before .before .before .before .before .before .before .before .before), on-line (reached here) (here .loop .line) (whole here) (here .loop .at) (turn-of took) (turn-is took))
 
 same-length : tie.Need-same-length Inv-loop μ-loop
 same-length c = c .before .before .before .before .before .before .before .before .before .before .before .take-event .kept .1 .1 .0 ∙ c .before .before .before .before .before .before .before .before .before .before .before .before .before .before .before .before .before .before .before .loop .inv .3 .0
@@ -92,27 +122,33 @@ same-length-3 c = c .before .before .before .before .before .before .before .bef
 
 returns : tie.Need-returns Inv-loop μ-loop
 returns c =
-    sym (c .before .before .before .before .before .before .before .before .before .before .before .before .before .before .before .before .before .before .before .loop .inv .4
-    ∙ stop-here (storeOf (c .before .before .before .before .before .before .before .before .before .before .before .before .before .before .before .before .before .before .before .loop .«record») (c .before .before .before .before .before .before .before .before .before .before .before .before .before .before .before .before .before .before .before .loop .clocks) (c .before .before .before .before .before .before .before .before .before .before .before .before .before .before .before .before .before .before .before .loop .held) (c .before .before .before .before .before .before .before .before .before .before .before .before .before .before .before .before .before .before .before .loop .order)) (c .before .before .before .before .before .before .before .before .before .before .before .before .before .before .before .before .before .before .before .loop .line) (c .before .before .before .before .before .before .before .before .before .before .before .before .before .before .before .before .before .before .before .before .before .before .before .before .args .text .now) (c .before .before .before .before .before .before .before .before .before .before .before .before .before .before .before .before .before .before .before .loop .at) (turned (c .before .before .before .before .before .before .before .before .before .before .before .take-event .result) (c .before .before .before .before .before .before .before .before .before .before .before .take-event .last .1 .1 .0) (c .before .before .before .before .before .before .before .before .before .before .before .take-event .last .1 .1 .1 .0) (c .before .before .before .before .before .before .before .before .before .before .before .take-event .last .1 .1 .1 .1 .0)) (turn-is (c .before .before .before .before .before .before .before .before .before .before .before)) (few-events (c .before .before .before .before .before .before .before .before .before .before .before .before .before .before .before .before .before .before .before)) (goes-on (c .before .before .before .before .before .before .before .before .before .before .before .before .before .before .before .before)) (refused-some (c .before .before .before .before .before .before .before .before .before .before .before .take-event .result .verdict) _ _ refl (c .before .enum-told2 .given .1)))
+    let here = c .before .before .before .before .before .before .before .before .before .before .before .before .before .before .before .before .before .before .before in
+    let took = c .before .before .before .before .before .before .before .before .before .before .before in
+    sym (here .loop .inv .4
+    ∙ stop-here (reached here) (here .loop .line) (whole here) (here .loop .at) (turn-of took) (turn-is took) (few-events here) (goes-on (c .before .before .before .before .before .before .before .before .before .before .before .before .before .before .before .before)) (refused-some (took .take-event .result .verdict) _ _ refl (c .before .enum-told2 .given .1)))
 
 add-at : tie.Need-add-at Inv-loop μ-loop
 add-at c = omega (arith, c .before .before .before .before .before .before .before .before .before .before .before .before .before .before .before .before .before .before .before .loop .inv .0, long-enough (c .before .before .before .before .before .before .before .before .before .before .before .before .before .before .before .before .before .before .before .before .before .before .before .before), used-is (c .before))
 
 add-line : tie.Need-add-line Inv-loop μ-loop
-add-line c = omega (arith, c .before .before .before .before .before .before .before .before .before .before .before .before .before .before .before .before .before .before .before .loop .inv .0, c .before .before .before .before .before .before .before .before .before .before .before .before .before .before .before .before .before .before .before .loop .inv .1, long-enough (c .before .before .before .before .before .before .before .before .before .before .before .before .before .before .before .before .before .before .before .before .before .before .before .before))
+add-line c =
+    let here = c .before .before .before .before .before .before .before .before .before .before .before .before .before .before .before .before .before .before .before in
+    omega (arith, here .loop .inv .0, here .loop .inv .1, long-enough (c .before .before .before .before .before .before .before .before .before .before .before .before .before .before .before .before .before .before .before .before .before .before .before .before))
 
 loop-less : tie.Need-loop-less Inv-loop μ-loop
 loop-less c = omega (arith, c .before .before .before .before .before .before .before .before .before .before .before .before .before .before .before .before .before .before .before .loop .inv .0, used-is (c .before))
 
 loop-again : tie.Need-loop-again Inv-loop μ-loop
 loop-again c =
+    let here = c .before .before .before .before .before .before .before .before .before .before .before .before .before .before .before .before .before .before .before in
+    let took = c .before .before .before .before .before .before .before .before .before .before .before in
     let used = used-is (c .before) in (
       omega (arith, used .1),
-      omega (arith, used .0, c .before .before .before .before .before .before .before .before .before .before .before .before .before .before .before .before .before .before .before .loop .inv .1),
-      c .before .before .before .before .before .before .before .before .before .before .before .take-event .ensures .ready,
-      (c .before .before .before .before .before .before .before .before .before .before .before .take-event .kept .1 .1 .0 ∙ c .before .before .before .before .before .before .before .before .before .before .before .before .before .before .before .before .before .before .before .loop .inv .3 .0, c .before .before .before .before .before .before .before .before .before .before .before .take-event .kept .1 .1 .1 .0 ∙ c .before .before .before .before .before .before .before .before .before .before .before .before .before .before .before .before .before .before .before .loop .inv .3 .1, c .before .before .before .before .before .before .before .before .before .before .before .take-event .kept .1 .1 .1 .1 .0 ∙ c .before .before .before .before .before .before .before .before .before .before .before .before .before .before .before .before .before .before .before .loop .inv .3 .2),
-      c .before .before .before .before .before .before .before .before .before .before .before .before .before .before .before .before .before .before .before .loop .inv .4
-          ∙ on-again (storeOf (c .before .before .before .before .before .before .before .before .before .before .before .before .before .before .before .before .before .before .before .loop .«record») (c .before .before .before .before .before .before .before .before .before .before .before .before .before .before .before .before .before .before .before .loop .clocks) (c .before .before .before .before .before .before .before .before .before .before .before .before .before .before .before .before .before .before .before .loop .held) (c .before .before .before .before .before .before .before .before .before .before .before .before .before .before .before .before .before .before .before .loop .order)) (c .before .before .before .before .before .before .before .before .before .before .before .before .before .before .before .before .before .before .before .loop .line) (c .before .before .before .before .before .before .before .before .before .before .before .before .before .before .before .before .before .before .before .before .before .before .before .before .args .text .now) (c .before .before .before .before .before .before .before .before .before .before .before .before .before .before .before .before .before .before .before .loop .at) (turned (c .before .before .before .before .before .before .before .before .before .before .before .take-event .result) (c .before .before .before .before .before .before .before .before .before .before .before .take-event .last .1 .1 .0) (c .before .before .before .before .before .before .before .before .before .before .before .take-event .last .1 .1 .1 .0) (c .before .before .before .before .before .before .before .before .before .before .before .take-event .last .1 .1 .1 .1 .0)) (turn-is (c .before .before .before .before .before .before .before .before .before .before .before)) (few-events (c .before .before .before .before .before .before .before .before .before .before .before .before .before .before .before .before .before .before .before)) (goes-on (c .before .before .before .before .before .before .before .before .before .before .before .before .before .before .before .before)) (passed (c .before)),
+      omega (arith, used .0, here .loop .inv .1),
+      took .take-event .ensures .ready,
+      (took .take-event .kept .1 .1 .0 ∙ here .loop .inv .3 .0, took .take-event .kept .1 .1 .1 .0 ∙ here .loop .inv .3 .1, took .take-event .kept .1 .1 .1 .1 .0 ∙ here .loop .inv .3 .2),
+      here .loop .inv .4
+          ∙ on-again (reached here) (here .loop .line) (whole here) (here .loop .at) (turn-of took) (turn-is took) (few-events here) (goes-on (c .before .before .before .before .before .before .before .before .before .before .before .before .before .before .before .before)) (passed (c .before)),
     )
 
 sub-read-end : tie.Need-sub-read-end Inv-loop μ-loop
@@ -125,7 +161,9 @@ part-read-end-end : tie.Need-part-read-end-end Inv-loop μ-loop
 part-read-end-end c = search needs
 
 read-end-requires : tie.Need-read-end-requires Inv-loop μ-loop
-read-end-requires c κs = omega (arith, c .before .before .before .before .loop .inv .0, c .before .before .before .before .loop .inv .1, long-enough (c .before .before .before .before .before .before .before .before .before))
+read-end-requires c κs =
+    let here = c .before .before .before .before in
+    omega (arith, here .loop .inv .0, here .loop .inv .1, long-enough (c .before .before .before .before .before .before .before .before .before))
 
 same-length-4 : tie.Need-same-length-4 Inv-loop μ-loop
 same-length-4 c = c .before .before .before .before .before .loop .inv .3 .0
@@ -138,10 +176,10 @@ same-length-6 c = c .before .before .before .before .before .loop .inv .3 .2
 
 returns-2 : tie.Need-returns-2 Inv-loop μ-loop
 returns-2 c =
-    let text = c .before .before .before .before .before .before .before .before .before .before .args .text .now in
-    c .read-end .ensures (c .before .before .before .before .before .loop .clocks) (c .before .before .before .before .before .loop .held) (c .before .before .before .before .before .loop .order)
-    ∙ ap (ending (storeOf (c .before .before .before .before .before .loop .«record») (c .before .before .before .before .before .loop .clocks) (c .before .before .before .before .before .loop .held) (c .before .before .before .before .before .loop .order)) (c .before .before .before .before .before .loop .line)) (rest-of text (c .before .before .before .before .before .loop .at))
-    ∙ sym (c .before .before .before .before .before .loop .inv .4 ∙ step-end (storeOf (c .before .before .before .before .before .loop .«record») (c .before .before .before .before .before .loop .clocks) (c .before .before .before .before .before .loop .held) (c .before .before .before .before .before .loop .order)) (c .before .before .before .before .before .loop .line) (drop (c .before .before .before .before .before .loop .at) text) (few-events (c .before .before .before .before .before)) (ends (c .before .before)))
+    let here = c .before .before .before .before .before in
+    c .read-end .ensures (here .loop .clocks) (here .loop .held) (here .loop .order)
+    ∙ ap (ending (reached here) (here .loop .line)) (rest-of (whole here) (here .loop .at))
+    ∙ sym (here .loop .inv .4 ∙ step-end (reached here) (here .loop .line) (left here) (few-events here) (ends (c .before .before)))
 
 pub read-events-spec : {M : Type 1} → statement M
 read-events-spec =

@@ -1,0 +1,17 @@
+-- The bytes of a line that is being written.
+use Prim.Native.Nat.{ℕ, _+_}
+use mathlib.Core.List.{List}
+use lib.ListN.{length, take, replicate}
+use lib.Seq.{sets}
+use Rattle.pieces.specs.declared.Piece.{Piece}
+
+unfoldable pub emptyPiece : Piece
+emptyPiece = record { length = 0; bytes = replicate 64 0 }
+
+-- more bytes, put behind those that the piece has
+unfoldable pub grown : Piece → List ℕ → Piece
+grown p more = record { length = p .length + length more; bytes = sets (p .bytes) (p .length) more }
+
+-- the bytes that the piece has
+abbrev pub contents : Piece → List ℕ
+contents p = take (p .length) (p .bytes)

@@ -1,0 +1,5 @@
+-- The theorems on reading and writing, and the table of cases.
+pub mod Back
+pub mod Again
+pub mod Theorems
+pub mod Cases

@@ -1,0 +1,13 @@
+-- `last_known` chooses by the tablet.
+use borrow.Author.Tests.{eq-eqb, ne-eqb}
+use Rattle.rules.proofs.follow.last_known.Statement.{statement}
+use Rattle.rules.proofs.follow.last_known.Tie as tie
+
+returns : tie.Need-returns
+returns c = simp (ne-eqb _ _ (c .if1 .taken))
+
+returns-2 : tie.Need-returns-2
+returns-2 c = simp (eq-eqb _ _ (c .if1 .left))
+
+pub last-known-spec : {M : Type 1} → statement M
+last-known-spec = tie.close (tie.spec returns returns-2)
