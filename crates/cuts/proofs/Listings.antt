@@ -17,11 +17,12 @@ use Rattle.model.proofs.Tests.{from-true, and-left, and-right}
 use Rattle.model.proofs.Entries.{covered-at-most}
 use Rattle.model.proofs.Ranges.{consistent-holds}
 use Rattle.store.proofs.Outcomes.{when-zero, when-some}
-use Rattle.cuts.specs.declared.lex.Next.{Next}
+use Rattle.steps.specs.declared.lex.Next.{Next}
+use Rattle.walks.specs.Showing.{toShow, ShownOf}
 use Rattle.cuts.specs.declared.Listed.{Listed}
-use Rattle.cuts.specs.Walk.{Span, Standing}
-use Rattle.cuts.specs.Listing.{toShow, ShownOf, done, more, ListOutcome, listed, RefusedAs, ListedAs, refusedListing, shownFrom, listOf, inInterval, listIn, listing}
-use Rattle.cuts.proofs.Answers.{interval-cuts}
+use Rattle.steps.specs.Walk.{Span, Standing}
+use Rattle.cuts.specs.Listing.{done, more, ListOutcome, listed, RefusedAs, ListedAs, refusedListing, shownFrom, listOf, inInterval, listIn, listing}
+use Rattle.steps.proofs.Bounding.{interval-cuts}
 
 pub refused-listed : (r : Listed) (number : ℕ) (place : Place) (out : List ℕ) → RefusedAs number place r → listed r out ≡ refusedListing number place out
 refused-listed r number place out told =

@@ -1,8 +1,7 @@
 -- `list_interval`: 9 for a position above T, 14 for an output under 8 bytes, else the interval's range is listed.
 use mathlib.Core.Path.{refl}
 use Rattle.model.specs.Store.{storeOf}
-use Rattle.cuts.proofs.Bounding.{interval-ready}
-use Rattle.cuts.proofs.Answers.{interval-span}
+use Rattle.steps.proofs.Bounding.{interval-ready, interval-span}
 use Rattle.cuts.proofs.Listings.{refused-listed, list-no-position, list-short, list-within}
 use borrow.Author.Needs.{needs}
 use Rattle.cuts.proofs.lister.list_interval.Statement.{statement}

@@ -7,21 +7,13 @@ use borrow.Author.Tests.{not-true, not-false}
 use lib.ListN.{length}
 use Rattle.model.specs.Clocks.{clockAt, covered}
 use Rattle.model.specs.Cuts.{consistent, cutsBetween}
-use Rattle.cuts.specs.Walk.{Standing}
-use Rattle.cuts.proofs.Walks.{all-from-first, walk-behind, walk-stands}
+use Rattle.steps.specs.Walk.{Standing}
+use Rattle.steps.proofs.Walks.{all-from-first, walk-behind, walk-stands}
 use Rattle.cuts.proofs.Listings.{refused-listed, shown-listed, stand-inside, list-outside, list-begun, list-fresh}
 use borrow.Author.Needs.{needs}
 use Rattle.cuts.proofs.lister.list_span.Statement.{statement}
 use Rattle.cuts.proofs.lister.list_span.Tie as tie
-use Rattle.cuts.proofs.lister.list_span.Reads as reads
-use Rattle.cuts.proofs.lister.list_span.Lts as lts
-use Rattle.cuts.proofs.lex.next_cut.Reads as next-cut-reads
-use Rattle.cuts.proofs.lister.in_span.Reads as in-span-reads
-use Rattle.cuts.proofs.lister.listed_as.Reads as listed-as-reads
-use Rattle.cuts.proofs.lister.refused_listing.Reads as refused-listing-reads
-use Rattle.cuts.proofs.lister.show.Reads as show-reads
 
--- src/lister.rt:153:13
 abbrev cuts : tie.Start → List (List ℕ)
 cuts c = cutsBetween (clockAt (c .args .clocks .now)) (c .args .span .low .counts) (c .args .span .high .counts)
 
@@ -41,56 +33,45 @@ standing c = stand-inside (c .before .before .before .before .before .before .ar
 in-span-requires : tie.Need-in-span-requires
 in-span-requires c κs = search needs
 
--- src/lister.rt:154:13
 refused-listing-requires : tie.Need-refused-listing-requires
 refused-listing-requires c κs = search needs
 
--- src/lister.rt:154:13
 returns : tie.Need-returns
 returns c =
     list-outside (cuts (c .before .before .before .before .before .before .before)) (inside (c .before .before .before .before .before .before .before)) (c .before .before .before .before .before .before .before .args .place) (c .before .before .before .before .before .before .before .args .out .now) _ (c .before .before .before .if1 .taken) (sym (c .before .before .in-span .ensures) ∙ not-true (c .before .before .in-span .result) (c .before .if2 .taken))
     (refused-listed (c .refused-listing .result) 10 (c .before .before .before .before .before .before .before .args .place) (c .before .before .before .before .before .before .before .args .out .now) (c .refused-listing .ensures))
 
--- src/lister.rt:156:13
 next-cut-requires : tie.Need-next-cut-requires
 next-cut-requires c κs = standing c
 
--- src/lister.rt:157:13
 show-requires : tie.Need-show-requires
 show-requires c κs =
     record {
       span = c .before .before .before .before .before .before .before .before .pre;
-      stand = walk-stands (c .before .before .before .before .before .before .before .before .args .n) (c .before .before .before .before .before .before .before .before .args .clocks .now) (c .before .before .before .before .before .before .before .before .args .span .low .counts) (c .before .before .before .before .before .before .before .before .args .span .high .counts) (c .before .before .before .before .before .before .before .before .pre) (c .before .before .before .before .before .before .before .before .args .place .cut .counts) (standing (c .before .before)) (c .before .next-cut .result) (c .before .next-cut .ensures);
+      stand = walk-stands (c .before .before .before .before .before .before .before .before .args .n) (c .before .before .before .before .before .before .before .before .args .clocks .now) (c .before .before .before .before .before .before .before .before .args .span .low .counts) (c .before .before .before .before .before .before .before .before .args .span .high .counts) (c .before .before .before .before .before .before .before .before .pre) (c .before .before .before .before .before .before .before .before .args .place .cut) (standing (c .before .before)) (c .before .next-cut .result) (c .before .next-cut .ensures);
     }
 
--- src/lister.rt:158:9
 listed-as-requires : tie.Need-listed-as-requires
 listed-as-requires c κs = search needs
 
--- src/lister.rt:158:9
 same-length : tie.Need-same-length
 same-length c = search needs
 
--- src/lister.rt:158:9
 returns-2 : tie.Need-returns-2
 returns-2 c =
     list-begun (cuts (c .before .before .before .before .before .before .before .before .before .before .before .before)) (inside (c .before .before .before .before .before .before .before .before .before .before .before .before)) (c .before .before .before .before .before .before .before .before .before .before .before .before .args .place) (c .before .before .before .before .before .before .before .before .before .before .before .before .args .out .now) _ (c .before .before .before .before .before .before .before .before .if1 .taken) (chosen (c .before .before .before .before .before .before))
     (shown-listed (c .listed-as .result) (cuts (c .before .before .before .before .before .before .before .before .before .before .before .before)) (c .before .before .before .before .before .next-cut .result) _ (c .before .before .before .before .before .before .before .before .before .before .before .before .args .place) (c .before .before .before .before .before .before .before .before .before .before .before .before .args .out .now) _ _ _ _ (c .before .before .before .show .ensures) (c .listed-as .ensures)
-    (sym (walk-behind (c .before .before .before .before .before .before .before .before .before .before .before .before .args .n) (c .before .before .before .before .before .before .before .before .before .before .before .before .args .clocks .now) (c .before .before .before .before .before .before .before .before .before .before .before .before .args .span .low .counts) (c .before .before .before .before .before .before .before .before .before .before .before .before .args .span .high .counts) (c .before .before .before .before .before .before .before .before .before .before .before .before .pre) (c .before .before .before .before .before .before .before .before .before .before .before .before .args .place .cut .counts) (standing (c .before .before .before .before .before .before)) (c .before .before .before .before .before .next-cut .result) (c .before .before .before .before .before .next-cut .ensures))))
+    (sym (walk-behind (c .before .before .before .before .before .before .before .before .before .before .before .before .args .n) (c .before .before .before .before .before .before .before .before .before .before .before .before .args .clocks .now) (c .before .before .before .before .before .before .before .before .before .before .before .before .args .span .low .counts) (c .before .before .before .before .before .before .before .before .before .before .before .before .args .span .high .counts) (c .before .before .before .before .before .before .before .before .before .before .before .before .pre) (c .before .before .before .before .before .before .before .before .before .before .before .before .args .place .cut) (standing (c .before .before .before .before .before .before)) (c .before .before .before .before .before .next-cut .result) (c .before .before .before .before .before .next-cut .ensures))))
 
--- src/lister.rt:161:9
 show-requires-2 : tie.Need-show-requires-2
 show-requires-2 c κs = search needs
 
--- src/lister.rt:172:5
 listed-as-requires-2 : tie.Need-listed-as-requires-2
 listed-as-requires-2 c κs = search needs
 
--- src/lister.rt:147:1
 same-length-2 : tie.Need-same-length-2
 same-length-2 c = search needs
 
--- src/lister.rt:147:1
 returns-3 : tie.Need-returns-3
 returns-3 c =
     list-fresh (cuts (c .before .before .before .before .before .before .before .before .before .before)) (inside (c .before .before .before .before .before .before .before .before .before .before)) (c .before .before .before .before .before .before .before .before .before .before .args .place) (c .before .before .before .before .before .before .before .before .before .before .args .out .now) _ (c .before .before .before .before .before .before .if1 .left)

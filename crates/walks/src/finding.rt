@@ -1,0 +1,38 @@
+// The first cut of a range that meets a question.
+use model::Cut;
+use model::Question;
+use questions::cut_meets;
+use steps::lex::Span;
+use steps::lex::next_cut;
+ghost use mathlib.Core.Path.{_≡_};
+ghost use Rattle.model.specs.Clocks.{clockAt};
+ghost use Rattle.model.specs.Cuts.{cutsBetween};
+ghost use Rattle.steps.specs.Walk as walk;
+ghost use Rattle.questions.specs.Holdings.{ForHeld, HeldReady};
+ghost use Rattle.walks.specs.Finding.{AskedOf};
+
+// The cut, or that there is none.
+pub struct First {
+    pub found: bool,
+    pub cut: Cut,
+}
+
+pub fn first_meeting(n: usize, clocks: &[u8], held: &[u16], span: Span, question: Question) -> First
+    requires { ⌜ walk.Span n (now clocks) (span .low .counts) (span .high .counts) × HeldReady (now held) (span .high .counts) 0 ⌝ }
+    ensures { λ r. ⌜ ForHeld (now (held .entry)) (λ s. AskedOf s question (cutsBetween (clockAt (now (clocks .entry))) (span .low .counts) (span .high .counts)) (r .found) (r .cut .counts)) ⌝ }
+{
+    let mut cut = span.low;
+    loop {
+        if cut_meets(held, question, cut) {
+            return First { found: true, cut };
+        }
+        let next = next_cut(n, clocks, span, cut);
+        if !next.found {
+            return First {
+                found: false,
+                cut: Cut { counts: [0u8; 8] },
+            };
+        }
+        cut = next.cut;
+    }
+}
