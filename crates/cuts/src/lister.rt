@@ -1,21 +1,22 @@
 // Writing the cuts that stand behind a place into a lent output.
 use crate::Listed;
 use crate::Listing;
+use model::Cut;
 use model::Place;
 use model::Position;
 use model::Record;
 use model::Refusal;
 use steps::inside::in_span;
-use steps::lex::Next;
-use steps::lex::Span;
 use steps::lex::next_cut;
+use steps::spans::Span;
 use steps::spans::interval_span;
 use walks::showing::Shown;
 use walks::showing::show;
 ghost use mathlib.Core.Path.{_≡_};
 ghost use mathlib.Core.Bool.{_&&_};
 ghost use mathlib.Core.List.{List};
-ghost use Prim.Native.Nat.{ℕ};
+ghost use Prim.Native.Nat.{ℕ, _≤_};
+ghost use lib.ListN.{length};
 ghost use Rattle.model.specs.Clocks.{clockAt, covered};
 ghost use Rattle.model.specs.Refusals.{numberOf};
 ghost use Rattle.model.specs.Store.{storeOf};
@@ -53,30 +54,30 @@ fn listed_as(shown: Shown) -> Listed
 }
 
 fn list_span(n: usize, clocks: &[u8], span: Span, place: Place, out: &mut [u8]) -> Listed
-    requires { ⌜ walk.Span n (now clocks) (span .low .counts) (span .high .counts) ⌝ }
+    requires { ⌜ walk.Span n (now clocks) (span .low .counts) (span .high .counts) × (8 ≤ length (now out)) ⌝ }
     ensures { λ r. ⌜ listed r (now (out .exit)) ≡ listOf (cutsBetween (clockAt (now (clocks .entry))) (span .low .counts) (span .high .counts)) (covered (span .low .counts) (place .cut .counts) && consistent (clockAt (now (clocks .entry))) (span .high .counts) (place .cut .counts)) place (now (out .entry)) ⌝ }
 {
     let cut = place.cut;
-    if place.begun {
-        if !in_span(n, clocks, span, cut) {
-            return refused_listing(Refusal::PlaceOutside, place);
-        }
-        let next = next_cut(n, clocks, span, cut);
-        let shown = show(n, clocks, span, next, place, out);
+    let first = span.low;
+    if !place.begun {
+        let shown = show(n, clocks, span, first, out);
         return listed_as(shown);
     }
-    let first = span.low;
-    let shown = show(
-        n,
-        clocks,
-        span,
-        Next {
-            found: true,
-            cut: first,
-        },
-        place,
-        out,
-    );
+    if !in_span(n, clocks, span, cut) {
+        return refused_listing(Refusal::PlaceOutside, place);
+    }
+    let low = first.counts;
+    let most = span.high;
+    let high = most.counts;
+    let mut counts = cut.counts;
+    if !next_cut(n, clocks, &low, &high, &mut counts) {
+        return Listed {
+            answer: Listing::Done,
+            written: 0,
+            place,
+        };
+    }
+    let shown = show(n, clocks, span, Cut { counts }, out);
     listed_as(shown)
 }
 

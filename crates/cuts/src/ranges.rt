@@ -2,7 +2,7 @@
 use model::Cut;
 use model::Range;
 use model::Record;
-use steps::lex::Span;
+use steps::spans::Span;
 use steps::spans::interval_span;
 use steps::spans::trace_span;
 ghost use mathlib.Core.Path.{_≡_};

@@ -5,9 +5,9 @@ ghost use Rattle.model.specs.Questions.{sumHeld};
 ghost use Rattle.questions.specs.Holdings.{ForHeld, HeldReady, HoldingOf};
 
 // What the tablet in column j holds at a cut.
-pub(crate) fn holding_at(held: &[u16], counts: [u8; 8], j: usize) -> u16
-    requires { ⌜ HeldReady (now held) counts j ⌝ }
-    ensures { λ r. ⌜ HoldingOf (now (held .entry)) counts j r ⌝ }
+pub(crate) fn holding_at(held: &[u16], counts: &[u8; 8], j: usize) -> u16
+    requires { ⌜ HeldReady (now held) (now counts) j ⌝ }
+    ensures { λ r. ⌜ HoldingOf (now (held .entry)) (now (counts .entry)) j r ⌝ }
 {
     let k = counts[j];
     if k == 0 {
@@ -18,9 +18,9 @@ pub(crate) fn holding_at(held: &[u16], counts: [u8; 8], j: usize) -> u16
 }
 
 // The sum of the holdings. Eight numbers of 16 bits cannot wrap 32.
-pub(crate) fn sum_held(held: &[u16], counts: [u8; 8]) -> u32
-    requires { ⌜ HeldReady (now held) counts 0 ⌝ }
-    ensures { λ r. ⌜ ForHeld (now (held .entry)) (λ s. r ≡ sumHeld s counts) ⌝ }
+pub(crate) fn sum_held(held: &[u16], counts: &[u8; 8]) -> u32
+    requires { ⌜ HeldReady (now held) (now counts) 0 ⌝ }
+    ensures { λ r. ⌜ ForHeld (now (held .entry)) (λ s. r ≡ sumHeld s (now (counts .entry))) ⌝ }
 {
     let mut sum: u32 = 0;
     let mut j: usize = 0;

@@ -3,7 +3,6 @@ mod holdings;
 mod sets;
 
 use holdings::sum_held;
-use model::Cut;
 use model::Question;
 use sets::all_hold;
 use sets::set_fits;
@@ -12,11 +11,10 @@ ghost use Rattle.model.specs.Questions.{meets};
 ghost use Rattle.questions.specs.Holdings.{ForHeld, HeldReady, questionFits};
 
 // Whether a cut meets a question. Of a store only the held values are read.
-pub fn cut_meets(held: &[u16], question: Question, cut: Cut) -> bool
-    requires { ⌜ HeldReady (now held) (cut .counts) 0 ⌝ }
-    ensures { λ r. ⌜ ForHeld (now (held .entry)) (λ s. r ≡ meets s question (cut .counts)) ⌝ }
+pub fn cut_meets(held: &[u16], question: Question, counts: &[u8; 8]) -> bool
+    requires { ⌜ HeldReady (now held) (now counts) 0 ⌝ }
+    ensures { λ r. ⌜ ForHeld (now (held .entry)) (λ s. r ≡ meets s question (now (counts .entry))) ⌝ }
 {
-    let counts = cut.counts;
     match question {
         Question::AtLeast(k) => k <= sum_held(held, counts),
         Question::Exactly(k) => sum_held(held, counts) == k,

@@ -18,9 +18,9 @@ fn holds_if_named(mask: u8, fact: bool) -> bool
 }
 
 // Whether each tablet that the mask names holds at least 1.
-pub(crate) fn all_hold(held: &[u16], mask: u8, counts: [u8; 8]) -> bool
-    requires { ⌜ HeldReady (now held) counts 0 ⌝ }
-    ensures { λ r. ⌜ ForHeld (now (held .entry)) (λ s. r ≡ eachNamed s mask counts) ⌝ }
+pub(crate) fn all_hold(held: &[u16], mask: u8, counts: &[u8; 8]) -> bool
+    requires { ⌜ HeldReady (now held) (now counts) 0 ⌝ }
+    ensures { λ r. ⌜ ForHeld (now (held .entry)) (λ s. r ≡ eachNamed s mask (now (counts .entry))) ⌝ }
 {
     let mut rest = mask;
     let mut j: usize = 0;

@@ -15,7 +15,7 @@ use Rattle.model.proofs.Entries.{same-entries}
 use Rattle.model.proofs.Largest.{maxBelow-same}
 use Rattle.model.proofs.Raised.{up-own, up-other, raised-upto, raised-behind, raised-long}
 use Rattle.model.proofs.Step.{can-raise, next-inside}
-use Rattle.steps.specs.Walk.{Standing, Raisable}
+use Rattle.steps.specs.Walk.{Standing, Raisable, Liftable}
 
 -- the least that is needed in column i, by the counts up to column k of a list
 abbrev needed : Clocks → List ℕ → List ℕ → ℕ → ℕ → ℕ
@@ -49,7 +49,16 @@ filled-more clk low first k n next j entry f less narrow told =
         (maxBelow-same (k + 1) (λ m. at (known clk m (at next m)) j) (λ m. at (known clk m (at first m)) j)
         (λ m h. ap (λ (c : ℕ). at (known clk m c) j) (f .kept m (omega arith))))
 
-module _ (n : ℕ) (clocks low high G : List ℕ) (k : ℕ) (stand : Standing n clocks low high G) (can : Raisable n clocks high G k) where
+module _ {n : ℕ} {clocks low G : List ℕ} {k : ℕ} (lift : Liftable n clocks low G k) where
+  abbrev high : List ℕ
+  high = lift .high
+
+  abbrev stand : Standing n clocks low high G
+  stand = lift .stand
+
+  abbrev can : Raisable n clocks high G k
+  can = lift .can
+
   abbrev clk : Clocks
   clk = clockAt clocks
 

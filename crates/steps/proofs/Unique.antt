@@ -1,5 +1,5 @@
 -- No second answer satisfies a contract.
-use mathlib.Core.Path.{_≡_, refl, sym, _∙_}
+use mathlib.Core.Path.{_≡_, refl, sym, ap, _∙_}
 use mathlib.Core.Bool.{Bool, _&&_}
 use mathlib.Core.List.{List, []}
 use Prim.Native.Nat.{ℕ}
@@ -8,13 +8,14 @@ use Rattle.model.specs.Clocks.{clockAt, covered}
 use Rattle.model.specs.Store.{Store}
 use Rattle.model.specs.Cuts.{consistent}
 use Rattle.model.specs.Step.{step}
-use Rattle.steps.specs.declared.lex.Span.{Span}
-use Rattle.steps.specs.declared.lex.Next.{Next}
-use Rattle.steps.specs.Walk.{nextAfter}
+use Rattle.steps.specs.declared.spans.Span.{Span}
+use Rattle.steps.specs.Walk.{Stepped, stepped, nextAfter}
 use Rattle.steps.specs.Spans.{IntervalSpan, TraceSpan}
 
-pub next-cut-unique : (clocks : List ℕ) (span : Span) (cut : Cut) (a b : Next) → a ≡ nextAfter cut (step (clockAt clocks) (span .low .counts) (span .high .counts) (cut .counts)) → b ≡ nextAfter cut (step (clockAt clocks) (span .low .counts) (span .high .counts) (cut .counts)) → a ≡ b
-next-cut-unique clocks span cut a b p q = p ∙ sym q
+pub next-cut-unique : (clocks low high G : List ℕ) (a b : Bool) (first second : List ℕ) → stepped a first ≡ nextAfter G (step (clockAt clocks) low high G) → stepped b second ≡ nextAfter G (step (clockAt clocks) low high G) → (a ≡ b) × (first ≡ second)
+next-cut-unique clocks low high G a b first second p q =
+    let same : stepped a first ≡ stepped b second = p ∙ sym q in
+    (ap (λ (x : Stepped). x .found) same, ap (λ (x : Stepped). x .counts) same)
 
 pub in-span-unique : (clocks : List ℕ) (span : Span) (cut : Cut) (a b : Bool) → a ≡ (covered (span .low .counts) (cut .counts) && consistent (clockAt clocks) (span .high .counts) (cut .counts)) → b ≡ (covered (span .low .counts) (cut .counts) && consistent (clockAt clocks) (span .high .counts) (cut .counts)) → a ≡ b
 in-span-unique clocks span cut a b p q = p ∙ sym q

@@ -1,7 +1,7 @@
 -- What the engine may assume: it stands at a cut of a range between two consistent cuts of a sound store.
 use mathlib.Core.Path.{_≡_}
 use Prim.Native.Nat.{ℕ, _≤_, _<_}
-use mathlib.Core.Bool.{true, false}
+use mathlib.Core.Bool.{Bool, true, false}
 use mathlib.Core.List.{List}
 use mathlib.Core.Option.{Option, none, some}
 use lib.Dec.{T}
@@ -9,8 +9,6 @@ use lib.ListN.{length}
 use Rattle.model.specs.Lists.{at}
 use Rattle.model.specs.Clocks.{clockAt}
 use Rattle.model.specs.Step.{canRaise}
-use Rattle.model.specs.declared.Cut.{Cut}
-use Rattle.steps.specs.declared.lex.Next.{Next}
 use Rattle.model.proofs.Ranges.{InRange}
 use Rattle.model.proofs.Bounds.{Bounds}
 
@@ -46,7 +44,15 @@ pub record Known (clocks counts : List ℕ) (k j : ℕ) : Type 0 where
   pub column : j < 8
   pub stored : (i : ℕ) → i ≤ k → at counts i ≤ 254
 
--- what a step answers: the next cut, or that there is none, and then the cut it stood at
-abbrev pub nextAfter : Cut → Option (List ℕ) → Next
-nextAfter cut none = record { found = false; cut = cut }
-nextAfter cut (some G) = record { found = true; cut = record { counts = G } }
+-- what a step leaves: whether there is a next cut, and the counts
+pub record Stepped : Type 0 where
+  pub found : Bool
+  pub counts : List ℕ
+
+abbrev pub stepped : Bool → List ℕ → Stepped
+stepped found counts = record { found = found; counts = counts }
+
+-- the next cut, or that there is none, and then the counts as they were
+abbrev pub nextAfter : List ℕ → Option (List ℕ) → Stepped
+nextAfter G none = record { found = false; counts = G }
+nextAfter G (some H) = record { found = true; counts = H }

@@ -1,5 +1,5 @@
 // Whether a cut is one of a range's.
-use crate::lex::Span;
+use crate::spans::Span;
 use model::Cut;
 use store::inner::known_covered;
 ghost use mathlib.Core.Path.{_≡_};

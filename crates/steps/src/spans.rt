@@ -1,5 +1,4 @@
 // The ranges of a stored trace: an event's interval, and the whole trace.
-use crate::lex::Span;
 use model::Cut;
 use store::inner::slot_of;
 ghost use mathlib.Core.Path.{_≡_};
@@ -8,6 +7,12 @@ ghost use lib.ListN.{length};
 ghost use Rattle.model.specs.Clocks.{clockIn};
 ghost use Rattle.model.specs.Follow.{tallies};
 ghost use Rattle.steps.specs.Spans.{Countable, IntervalReady, IntervalSpan, TraceSpan};
+
+// The least and the greatest cut of a range.
+pub struct Span {
+    pub low: Cut,
+    pub high: Cut,
+}
 
 // The tallies after the first p events, counted along the order list.
 fn tallies_after(order: &[u8], p: usize) -> [u8; 8]

@@ -2,10 +2,8 @@
 use mathlib.Core.Path.{_≡_, refl, sym, _∙_}
 use mathlib.Core.List.{List, []}
 use Prim.Native.Nat.{ℕ}
-use Rattle.model.specs.declared.Place.{Place}
 use Rattle.model.specs.declared.Question.{Question}
 use Rattle.model.specs.Store.{Store}
-use Rattle.steps.specs.declared.lex.Next.{Next}
 use Rattle.questions.specs.Holdings.{ForHeld}
 use Rattle.walks.specs.declared.counting.Tally.{Tally}
 use Rattle.walks.specs.declared.finding.First.{First}
@@ -26,8 +24,8 @@ first-meeting-unique held question cuts a b f g =
     some : Store
     some = record { tablets = 0; events = 0; clocks = []; held = held; order = [] }
 
-pub show-unique : (cuts : List (List ℕ)) (from : Next) (place : Place) (out : List ℕ) (a b : Shown) (first second : List ℕ) → ShownOf cuts from place out (a .written) (a .place) (a .more) first → ShownOf cuts from place out (b .written) (b .place) (b .more) second → (a ≡ b) × (first ≡ second)
-show-unique cuts from place out a b first second p q = (
-  (λ i. record { written = (p .count-is ∙ sym (q .count-is)) i; place = (p .place-is ∙ sym (q .place-is)) i; more = (p .more-is ∙ sym (q .more-is)) i }),
+pub show-unique : (cuts : List (List ℕ)) (out : List ℕ) (a b : Shown) (first second : List ℕ) → ShownOf cuts out (a .written) (a .place) (a .more) first → ShownOf cuts out (b .written) (b .place) (b .more) second → (a ≡ b) × (first ≡ second)
+show-unique cuts out a b first second p q = (
+  (λ i. record { written = (p .count-is ∙ sym (q .count-is)) i; place = (p .place-is (a .place) ∙ sym (q .place-is (a .place))) i; more = (p .more-is ∙ sym (q .more-is)) i }),
   p .output-is ∙ sym (q .output-is),
 )

@@ -1,24 +1,23 @@
 -- Document 01, "Listing", as far as it is about the cuts that are written.
 use mathlib.Core.Path.{_≡_}
-use Prim.Native.Nat.{ℕ, _*_, _/_}
-use mathlib.Core.Bool.{Bool, true, cond}
+use Prim.Native.Nat.{ℕ, _*_, _/_, _≤_}
+use mathlib.Core.Bool.{Bool, true}
 use mathlib.Core.List.{List, [], _∷_, _++_}
 use lib.Dec.{ltb}
 use lib.ListN.{length, take, drop}
 use Rattle.model.specs.declared.Place.{Place}
 use Rattle.model.specs.Lists.{keep}
 use Rattle.model.specs.Lexical.{lexBefore}
-use Rattle.steps.specs.declared.lex.Next.{Next}
-use Rattle.steps.specs.Walk.{Span, Standing}
+use Rattle.steps.specs.Walk.{Standing}
 
--- the range, and where a next cut was found, that it is one of its cuts
-pub record Pending (n : ℕ) (clocks low high : List ℕ) (from : Next) : Type 0 where
-  pub span : Span n clocks low high
-  pub stand : from .found ≡ true → Standing n clocks low high (from .cut .counts)
+-- a range, one of its cuts, and an output with room for it
+pub record Pending (n : ℕ) (clocks low high first out : List ℕ) : Type 0 where
+  pub stand : Standing n clocks low high first
+  pub room-left : 8 ≤ length out
 
--- what is still to be shown: nothing, or the next cut and all that stand behind it
-abbrev pub toShow : List (List ℕ) → Next → List (List ℕ)
-toShow cuts from = cond (from .found) (from .cut .counts ∷ keep (lexBefore (from .cut .counts)) cuts) []
+-- a cut and all that stand behind it
+abbrev pub fromCut : List (List ℕ) → List ℕ → List (List ℕ)
+fromCut cuts G = G ∷ keep (lexBefore G) cuts
 
 -- "Whole cuts of 8 bytes are written from the front of a lent output"
 abbrev pub flat : List (List ℕ) → List ℕ
@@ -33,13 +32,16 @@ abbrev pub written : List (List ℕ) → List ℕ → List ℕ
 written shown out = flat shown ++ drop (8 * length shown) out
 
 -- "The place then is begun and holds the last cut written, or is unchanged if none was."
+abbrev pub placeBehind : List ℕ → Place
+placeBehind G = record { begun = true; cut = record { counts = G } }
+
 abbrev pub behindAll : Place → List (List ℕ) → Place
 behindAll place [] = place
-behindAll place (G ∷ Gs) = behindAll (record { begun = true; cut = record { counts = G } }) Gs
+behindAll place (G ∷ Gs) = behindAll (placeBehind G) Gs
 
--- "lexically rising, as many as fit or remain"
-pub record ShownOf (cuts : List (List ℕ)) (from : Next) (place : Place) (out : List ℕ) (count : ℕ) (after : Place) (more : Bool) (result : List ℕ) : Type 0 where
-  pub count-is : count ≡ length (take (room out) (toShow cuts from))
-  pub place-is : after ≡ behindAll place (take (room out) (toShow cuts from))
-  pub more-is : more ≡ ltb (room out) (length (toShow cuts from))
-  pub output-is : result ≡ written (take (room out) (toShow cuts from)) out
+-- "lexically rising, as many as fit or remain". The place does not depend on the one before, since a cut is written.
+pub record ShownOf (cuts : List (List ℕ)) (out : List ℕ) (count : ℕ) (after : Place) (more : Bool) (result : List ℕ) : Type 0 where
+  pub count-is : count ≡ length (take (room out) cuts)
+  pub place-is : (before : Place) → after ≡ behindAll before (take (room out) cuts)
+  pub more-is : more ≡ ltb (room out) (length cuts)
+  pub output-is : result ≡ written (take (room out) cuts) out

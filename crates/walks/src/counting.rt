@@ -1,6 +1,6 @@
 // Counting the cuts of a range by walking it.
-use steps::lex::Span;
 use steps::lex::next_cut;
+use steps::spans::Span;
 ghost use mathlib.Core.Path.{_≡_};
 ghost use Rattle.model.specs.Clocks.{clockAt};
 ghost use Rattle.model.specs.Cuts.{cutsBetween};
@@ -17,11 +17,14 @@ pub fn count_span(n: usize, clocks: &[u8], span: Span) -> Tally
     requires { ⌜ walk.Span n (now clocks) (span .low .counts) (span .high .counts) ⌝ }
     ensures { λ r. ⌜ CountedTo (cutsBetween (clockAt (now (clocks .entry))) (span .low .counts) (span .high .counts)) (r .fits) (r .count) ⌝ }
 {
-    let mut cut = span.low;
+    let least = span.low;
+    let low = least.counts;
+    let most = span.high;
+    let high = most.counts;
+    let mut counts = low;
     let mut count: u64 = 1;
     loop {
-        let next = next_cut(n, clocks, span, cut);
-        if !next.found {
+        if !next_cut(n, clocks, &low, &high, &mut counts) {
             return Tally { fits: true, count };
         }
         if count == 18446744073709551615 {
@@ -31,6 +34,5 @@ pub fn count_span(n: usize, clocks: &[u8], span: Span) -> Tally
             };
         }
         count += 1;
-        cut = next.cut;
     }
 }

@@ -2,8 +2,8 @@
 use model::Cut;
 use model::Question;
 use questions::cut_meets;
-use steps::lex::Span;
 use steps::lex::next_cut;
+use steps::spans::Span;
 ghost use mathlib.Core.Path.{_≡_};
 ghost use Rattle.model.specs.Clocks.{clockAt};
 ghost use Rattle.model.specs.Cuts.{cutsBetween};
@@ -21,18 +21,23 @@ pub fn first_meeting(n: usize, clocks: &[u8], held: &[u16], span: Span, question
     requires { ⌜ walk.Span n (now clocks) (span .low .counts) (span .high .counts) × HeldReady (now held) (span .high .counts) 0 ⌝ }
     ensures { λ r. ⌜ ForHeld (now (held .entry)) (λ s. AskedOf s question (cutsBetween (clockAt (now (clocks .entry))) (span .low .counts) (span .high .counts)) (r .found) (r .cut .counts)) ⌝ }
 {
-    let mut cut = span.low;
+    let least = span.low;
+    let low = least.counts;
+    let most = span.high;
+    let high = most.counts;
+    let mut counts = low;
     loop {
-        if cut_meets(held, question, cut) {
-            return First { found: true, cut };
+        if cut_meets(held, question, &counts) {
+            return First {
+                found: true,
+                cut: Cut { counts },
+            };
         }
-        let next = next_cut(n, clocks, span, cut);
-        if !next.found {
+        if !next_cut(n, clocks, &low, &high, &mut counts) {
             return First {
                 found: false,
                 cut: Cut { counts: [0u8; 8] },
             };
         }
-        cut = next.cut;
     }
 }

@@ -1,12 +1,13 @@
 // Writing the cuts of a range into a lent output, from one of them on.
+use model::Cut;
 use model::Place;
-use steps::lex::Next;
-use steps::lex::Span;
 use steps::lex::next_cut;
+use steps::spans::Span;
 use store::inner::write_eight;
+ghost use mathlib.Core.Path.{_≡_};
 ghost use Rattle.model.specs.Clocks.{clockAt};
 ghost use Rattle.model.specs.Cuts.{cutsBetween};
-ghost use Rattle.walks.specs.Showing.{Pending, ShownOf};
+ghost use Rattle.walks.specs.Showing.{Pending, fromCut, placeBehind, ShownOf};
 
 // What was written: how many cuts, the place behind the last of them, and whether more stand behind it.
 pub struct Shown {
@@ -15,33 +16,44 @@ pub struct Shown {
     pub more: bool,
 }
 
-pub fn show(n: usize, clocks: &[u8], span: Span, from: Next, place: Place, out: &mut [u8]) -> Shown
-    requires { ⌜ Pending n (now clocks) (span .low .counts) (span .high .counts) from ⌝ }
-    ensures { λ r. ⌜ ShownOf (cutsBetween (clockAt (now (clocks .entry))) (span .low .counts) (span .high .counts)) from place (now (out .entry)) (r .written) (r .place) (r .more) (now (out .exit)) ⌝ }
+pub fn show(n: usize, clocks: &[u8], span: Span, first: Cut, out: &mut [u8]) -> Shown
+    requires { ⌜ Pending n (now clocks) (span .low .counts) (span .high .counts) (first .counts) (now out) ⌝ }
+    ensures { λ r. ⌜ ShownOf (fromCut (cutsBetween (clockAt (now (clocks .entry))) (span .low .counts) (span .high .counts)) (first .counts)) (now (out .entry)) (r .written) (r .place) (r .more) (now (out .exit)) ⌝ }
 {
-    let mut next = from;
-    let mut place = place;
+    let least = span.low;
+    let low = least.counts;
+    let most = span.high;
+    let high = most.counts;
+    let mut counts = first.counts;
     let mut written: usize = 0;
     loop {
-        if !next.found {
+        write_eight(out, 8 * written, counts);
+        written += 1;
+        if out.len() - 8 * written < 8 {
+            let place = behind(counts);
+            let more = next_cut(n, clocks, &low, &high, &mut counts);
             return Shown {
                 written,
                 place,
+                more,
+            };
+        }
+        if !next_cut(n, clocks, &low, &high, &mut counts) {
+            return Shown {
+                written,
+                place: behind(counts),
                 more: false,
             };
         }
-        if out.len() - 8 * written < 8 {
-            return Shown {
-                written,
-                place,
-                more: true,
-            };
-        }
-        let cut = next.cut;
-        let counts = cut.counts;
-        write_eight(out, 8 * written, counts);
-        place = Place { begun: true, cut };
-        written += 1;
-        next = next_cut(n, clocks, span, cut);
+    }
+}
+
+// The place behind a cut.
+fn behind(counts: [u8; 8]) -> Place
+    ensures { λ r. ⌜ r ≡ placeBehind counts ⌝ }
+{
+    Place {
+        begun: true,
+        cut: Cut { counts },
     }
 }

@@ -28,15 +28,15 @@ all-hold-requires c κs = search needs
 
 returns : tie.Need-returns
 unfolding meets
-returns c = λ s e. ap (leb (c .before .before .question .given .0 .0)) (c .sum-held .ensures s e) ∙ sym (ap (λ (q : Question). meets s q (c .before .before .before .before .before .before .args .cut .counts)) (c .before .before .question .given .1))
+returns c = λ s e. ap (leb (c .before .before .question .given .0 .0)) (c .sum-held .ensures s e) ∙ sym (ap (λ (q : Question). meets s q (c .before .before .before .before .before .args .counts .now)) (c .before .before .question .given .1))
 
 returns-2 : tie.Need-returns-2
 unfolding meets
-returns-2 c = λ s e. ap (λ (n : ℕ). eqb n (c .before .before .question2 .given .0 .0)) (c .sum-held2 .ensures s e) ∙ sym (ap (λ (q : Question). meets s q (c .before .before .before .before .before .before .args .cut .counts)) (c .before .before .question2 .given .1))
+returns-2 c = λ s e. ap (λ (n : ℕ). eqb n (c .before .before .question2 .given .0 .0)) (c .sum-held2 .ensures s e) ∙ sym (ap (λ (q : Question). meets s q (c .before .before .before .before .before .args .counts .now)) (c .before .before .question2 .given .1))
 
 returns-3 : tie.Need-returns-3
 unfolding meets
-returns-3 c = λ s e. c .all-hold .ensures s e ∙ sym (ap (λ (q : Question). meets s q (c .before .before .before .before .before .before .args .cut .counts)) (c .before .before .question3 .given .1))
+returns-3 c = λ s e. c .all-hold .ensures s e ∙ sym (ap (λ (q : Question). meets s q (c .before .before .before .before .before .args .counts .now)) (c .before .before .question3 .given .1))
 
 pub cut-meets-spec : {M : Type 1} → statement M
 cut-meets-spec =

@@ -36,7 +36,7 @@ list-span-requires : tie.Need-list-span-requires
 list-span-requires c κs =
     let s = (storeOf (c .before .before .before .before .before .before .before .before .before .args .«record») (c .before .before .before .before .before .before .before .before .before .args .clocks .now) (c .before .before .before .before .before .before .before .before .before .pre .held) (c .before .before .before .before .before .before .before .before .before .args .order .now)) in
     let bounds = c .before .before .interval-span .ensures in
-    interval-span s (c .before .before .before .before .before .before .before .before .before .pre .none) (c .before .before .before .before .before .before .before .before .before .args .position .0) (c .before .before .before .before .if1 .left) _ _ (bounds .low-is s refl refl) (bounds .high-is)
+    (interval-span s (c .before .before .before .before .before .before .before .before .before .pre .none) (c .before .before .before .before .before .before .before .before .before .args .position .0) (c .before .before .before .before .if1 .left) _ _ (bounds .low-is s refl refl) (bounds .high-is), c .before .before .before .if2 .left)
 
 same-length : tie.Need-same-length
 same-length c = search needs

@@ -38,14 +38,14 @@ loop-again c =
     let l = c .before .before .loop in (
       omega arith,
       omega (arith, c .holding-at .ensures .small, l .inv .1),
-      λ s e. sum-more (l .j) (holding s (c .before .before .before .before .args .counts)) (l .sum) (c .holding-at .result) (l .inv .2 s e) (c .holding-at .ensures .value-is s e),
+      λ s e. sum-more (l .j) (holding s (c .before .before .before .before .args .counts .now)) (l .sum) (c .holding-at .result) (l .inv .2 s e) (c .holding-at .ensures .value-is s e),
     )
 
 returns : tie.Need-returns Inv-loop μ-loop
 unfolding sumHeld
 returns c = λ s e.
     let done : c .before .loop .j ≡ 8 = omega arith in
-    c .before .loop .inv .2 s e ∙ ap (λ (m : ℕ). sumBelow m (holding s (c .before .before .before .args .counts))) done
+    c .before .loop .inv .2 s e ∙ ap (λ (m : ℕ). sumBelow m (holding s (c .before .before .before .args .counts .now))) done
 
 pub sum-held-spec : {M : Type 1} → statement M
 sum-held-spec =

@@ -26,7 +26,7 @@ abbrev μ-loop : tie.MeasureT-loop
 μ-loop held mask counts rest₀ j₀ rest j = 8 - j
 
 -- what the turn's calls found is the fact of that tablet
-looked : (c : tie.After-holds-if-named Inv-loop μ-loop) → ForHeld (c .before .before .before .before .before .args .held .now) (λ s. one s (c .before .before .before .before .before .args .mask) (c .before .before .before .before .before .args .counts) (c .before .before .before .loop .j) ≡ c .holds-if-named .result)
+looked : (c : tie.After-holds-if-named Inv-loop μ-loop) → ForHeld (c .before .before .before .before .before .args .held .now) (λ s. one s (c .before .before .before .before .before .args .mask) (c .before .before .before .before .before .args .counts .now) (c .before .before .before .loop .j) ≡ c .holds-if-named .result)
 looked c s e =
     sym
     (c .holds-if-named .ensures
@@ -46,7 +46,7 @@ returns : tie.Need-returns Inv-loop μ-loop
 returns c = λ s e.
     let a = c .before .before .before .before .before .before .args in
     sym
-    (allBelow-stop 8 (c .before .before .before .before .loop .j) (one s (a .mask) (a .counts)) (c .before .before .before .loop-test .taken)
+    (allBelow-stop 8 (c .before .before .before .before .loop .j) (one s (a .mask) (a .counts .now)) (c .before .before .before .loop-test .taken)
     (looked (c .before) s e ∙ not-true (c .before .holds-if-named .result) (c .if1 .taken)))
 
 add-j : tie.Need-add-j Inv-loop μ-loop
@@ -61,14 +61,14 @@ loop-again c =
     let l = c .before .before .before .before .loop in (
       omega arith,
       halved-more (a .mask) (l .j) (l .rest) (l .inv .1),
-      λ s e. allBelow-more (l .j) (one s (a .mask) (a .counts)) (l .inv .2 s e) (looked (c .before) s e ∙ not-false (c .before .holds-if-named .result) (c .if1 .left)),
+      λ s e. allBelow-more (l .j) (one s (a .mask) (a .counts .now)) (l .inv .2 s e) (looked (c .before) s e ∙ not-false (c .before .holds-if-named .result) (c .if1 .left)),
     )
 
 returns-2 : tie.Need-returns-2 Inv-loop μ-loop
 returns-2 c = λ s e.
     let a = c .before .before .before .args in
     let done : c .before .loop .j ≡ 8 = omega arith in
-    sym (ap (λ (m : ℕ). allBelow m (one s (a .mask) (a .counts))) (sym done) ∙ c .before .loop .inv .2 s e)
+    sym (ap (λ (m : ℕ). allBelow m (one s (a .mask) (a .counts .now))) (sym done) ∙ c .before .loop .inv .2 s e)
 
 pub all-hold-spec : {M : Type 1} → statement M
 all-hold-spec =

@@ -14,21 +14,21 @@ abbrev knows : List ℕ → List ℕ → ℕ → ℕ → ℕ
 knows clocks counts j i = at (known (clockAt clocks) i (at counts i)) j
 
 abbrev Inv-loop : tie.InvT-loop
-Inv-loop clocks k j floor counts most₀ i₀ most i = (i ≤ k + 1) × (most ≡ max floor (maxBelow i (knows clocks counts j)))
+Inv-loop clocks counts k j floor most₀ i₀ most i = (i ≤ k + 1) × (most ≡ max floor (maxBelow i (knows clocks counts j)))
 
 abbrev μ-loop : tie.MeasureT-loop
-μ-loop clocks k j floor counts most₀ i₀ most i = k + 1 - i
+μ-loop clocks counts k j floor most₀ i₀ most i = k + 1 - i
 
 loop-holds : tie.Need-loop-holds Inv-loop μ-loop
 loop-holds c = (omega arith, omega arith)
 
-array-read-known-entry : tie.Need-array-read-known-entry Inv-loop μ-loop
-array-read-known-entry c = omega arith
+element-copy-out-known-entry : tie.Need-element-copy-out-known-entry Inv-loop μ-loop
+element-copy-out-known-entry c = omega arith
 
 known-entry-requires : tie.Need-known-entry-requires Inv-loop μ-loop
 known-entry-requires c κs =
-    let p = c .before .before .before .pre in
-    (p .full, omega arith, p .stored (c .before .loop .i) (c .loop-test .taken), p .column)
+    let p = c .before .before .before .before .pre in
+    (p .full, omega arith, p .stored (c .before .before .loop .i) (c .before .loop-test .taken), p .column)
 
 add-i : tie.Need-add-i Inv-loop μ-loop
 add-i c = omega arith
@@ -38,9 +38,9 @@ loop-less c = omega arith
 
 loop-again : tie.Need-loop-again Inv-loop μ-loop
 loop-again c =
-    let a = c .before .before .before .before .before .args in
-    let l = c .before .before .before .loop in
-    let f = knows (a .clocks .now) (a .t2) (a .j) in (
+    let a = c .before .before .before .before .before .before .args in
+    let l = c .before .before .before .before .loop in
+    let f = knows (a .clocks .now) (a .counts .now) (a .j) in (
       omega arith,
       ⊎-elim
           (λ w. w .1 ∙ max-taken (l .i) f (a .floor) (l .most) (c .before .known-entry .result) (l .inv .1) (c .before .known-entry .ensures) (w .0 .taken))
@@ -52,7 +52,7 @@ returns : tie.Need-returns Inv-loop μ-loop
 returns c =
     let a = c .before .before .before .args in
     let e : c .before .loop .i ≡ a .k + 1 = omega arith in
-    c .before .loop .inv .1 ∙ ap (λ (m : ℕ). max (a .floor) (maxBelow m (knows (a .clocks .now) (a .t2) (a .j)))) e
+    c .before .loop .inv .1 ∙ ap (λ (m : ℕ). max (a .floor) (maxBelow m (knows (a .clocks .now) (a .counts .now) (a .j)))) e
 
 pub least-entry-spec : {M : Type 1} → statement M
 least-entry-spec =
@@ -61,7 +61,7 @@ least-entry-spec =
     Inv-loop
     μ-loop
     loop-holds
-    array-read-known-entry
+    element-copy-out-known-entry
     known-entry-requires
     add-i
     loop-less

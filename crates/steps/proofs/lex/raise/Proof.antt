@@ -1,5 +1,5 @@
 -- `raise`: the columns before j are filled; the rest are as they were.
-use Prim.Native.Nat.{_-_}
+use Prim.Native.Nat.{_-_, _<_}
 use native.Mathlib.Omega.{arith}
 use Rattle.model.specs.Clocks.{clockAt}
 use Rattle.steps.proofs.Raise.{Filled, filled-more, column-fits, next-fits, first-stored, filled-start, filled-end}
@@ -7,54 +7,63 @@ use Rattle.steps.proofs.lex.raise.Statement.{statement}
 use Rattle.steps.proofs.lex.raise.Tie as tie
 
 abbrev Inv-loop : tie.InvT-loop
-Inv-loop n clocks k low next₀ j₀ next j = Filled (clockAt clocks) low next₀ k n next j
+Inv-loop n clocks low counts₀ k j₀ counts j = Filled (clockAt clocks) low counts₀ k n counts j
 
 abbrev μ-loop : tie.MeasureT-loop
-μ-loop n clocks k low next₀ j₀ next j = n - j
+μ-loop n clocks low counts₀ k j₀ counts j = n - j
 
-array-read-next : tie.Need-array-read-next Inv-loop μ-loop
-array-read-next c = column-fits (c .before .args .n) (c .before .args .clocks .now) (c .before .args .t3) (c .before .pre .high) (c .before .args .t4) (c .before .args .k) (c .before .pre .stand) (c .before .pre .can)
+-- where the call began, from within the loop
+abbrev start : tie.In-loop Inv-loop μ-loop → tie.Start Inv-loop μ-loop
+start c = c .before .before .before .before
 
-add-next : tie.Need-add-next Inv-loop μ-loop
-add-next c = omega (arith, next-fits (c .before .args .n) (c .before .args .clocks .now) (c .before .args .t3) (c .before .pre .high) (c .before .args .t4) (c .before .args .k) (c .before .pre .stand) (c .before .pre .can))
+listed : (c : tie.In-loop Inv-loop μ-loop) → c .before .loop .j < 8
+listed c = omega (arith, c .loop-test .taken, start c .pre .stand .span .tablets)
 
-array-write-next : tie.Need-array-write-next Inv-loop μ-loop
-array-write-next c = column-fits (c .before .args .n) (c .before .args .clocks .now) (c .before .args .t3) (c .before .pre .high) (c .before .args .t4) (c .before .args .k) (c .before .pre .stand) (c .before .pre .can)
+element-copy-out-counts : tie.Need-element-copy-out-counts Inv-loop μ-loop
+element-copy-out-counts c = column-fits (c .before .pre)
+
+add-counts : tie.Need-add-counts Inv-loop μ-loop
+add-counts c = omega (arith, next-fits (c .before .before .pre))
+
+element-write-counts : tie.Need-element-write-counts Inv-loop μ-loop
+element-write-counts c = column-fits (c .before .before .pre)
 
 add-j : tie.Need-add-j Inv-loop μ-loop
-add-j c = omega (arith, column-fits (c .before .args .n) (c .before .args .clocks .now) (c .before .args .t3) (c .before .pre .high) (c .before .args .t4) (c .before .args .k) (c .before .pre .stand) (c .before .pre .can))
+add-j c = omega (arith, column-fits (c .before .before .pre))
 
 loop-holds : tie.Need-loop-holds Inv-loop μ-loop
-loop-holds c = filled-start (c .before .args .n) (c .before .args .clocks .now) (c .before .args .t3) (c .before .pre .high) (c .before .args .t4) (c .before .args .k) (c .before .pre .stand) (c .before .pre .can)
+loop-holds c = filled-start (c .before .before .pre)
 
-array-read-least-entry : tie.Need-array-read-least-entry Inv-loop μ-loop
-array-read-least-entry c = omega (arith, c .loop-test .taken, c .before .before .before .pre .stand .span .tablets)
+element-copy-out-least-entry : tie.Need-element-copy-out-least-entry Inv-loop μ-loop
+element-copy-out-least-entry c = listed (c .before)
 
 least-entry-requires : tie.Need-least-entry-requires Inv-loop μ-loop
 least-entry-requires c κs =
-    let inv = c .before .loop .inv in
+    let lift = start (c .before .before) .pre in
     record {
-      full = c .before .before .before .pre .stand .span .full;
-      upto = column-fits (c .before .before .before .args .n) (c .before .before .before .args .clocks .now) (c .before .before .before .args .t3) (c .before .before .before .pre .high) (c .before .before .before .args .t4) (c .before .before .before .args .k) (c .before .before .before .pre .stand) (c .before .before .before .pre .can);
-      column = omega (arith, c .loop-test .taken, c .before .before .before .pre .stand .span .tablets);
-      stored = λ i h. omega (arith, inv .kept i h, first-stored (c .before .before .before .args .n) (c .before .before .before .args .clocks .now) (c .before .before .before .args .t3) (c .before .before .before .pre .high) (c .before .before .before .args .t4) (c .before .before .before .args .k) (c .before .before .before .pre .stand) (c .before .before .before .pre .can) i h);
+      full = lift .stand .span .full;
+      upto = column-fits lift;
+      column = listed (c .before .before);
+      stored = λ i h. omega (arith, c .before .before .before .loop .inv .kept i h, first-stored lift i h);
     }
 
-array-write-next-2 : tie.Need-array-write-next-2 Inv-loop μ-loop
-array-write-next-2 c = omega (arith, c .before .loop-test .taken, c .before .before .before .before .pre .stand .span .tablets)
+element-write-counts-2 : tie.Need-element-write-counts-2 Inv-loop μ-loop
+element-write-counts-2 c = listed (c .before .before .before)
 
 add-j-2 : tie.Need-add-j-2 Inv-loop μ-loop
-add-j-2 c = omega (arith, c .before .loop-test .taken, c .before .before .before .before .pre .stand .span .tablets)
+add-j-2 c = omega (arith, listed (c .before .before .before))
 
 loop-less : tie.Need-loop-less Inv-loop μ-loop
-loop-less c = omega (arith, c .before .loop-test .taken)
+loop-less c = omega (arith, c .before .before .before .loop-test .taken)
 
 loop-again : tie.Need-loop-again Inv-loop μ-loop
 loop-again c =
-    filled-more (clockAt (c .before .before .before .before .args .clocks .now)) (c .before .before .before .before .args .t3) _ (c .before .before .before .before .args .k) (c .before .before .before .before .args .n) (c .before .before .loop .next) (c .before .before .loop .j) (c .least-entry .result) (c .before .before .loop .inv) (c .before .loop-test .taken) (c .before .before .before .before .pre .stand .span .tablets) (c .least-entry .ensures)
+    let l = c .before .before .before in
+    let a = start l .args in
+    filled-more (clockAt (a .clocks .now)) (a .low .now) _ (a .k) (a .n) (l .before .loop .counts) (l .before .loop .j) (c .least-entry .result) (l .before .loop .inv) (l .loop-test .taken) (start l .pre .stand .span .tablets) (c .least-entry .ensures)
 
 returns : tie.Need-returns Inv-loop μ-loop
-returns c = filled-end (c .before .before .before .args .n) (c .before .before .before .args .clocks .now) (c .before .before .before .args .t3) (c .before .before .before .pre .high) (c .before .before .before .args .t4) (c .before .before .before .args .k) (c .before .before .before .pre .stand) (c .before .before .before .pre .can) (c .before .loop .next) (c .before .loop .j) (c .before .loop .inv) (omega (arith, c .loop-test .left))
+returns c = filled-end (c .before .before .before .before .pre) (c .before .loop .counts) (c .before .loop .j) (c .before .loop .inv) (omega (arith, c .loop-test .left))
 
 pub raise-spec : {M : Type 1} → statement M
 raise-spec =
@@ -62,14 +71,14 @@ raise-spec =
     (tie.spec
     Inv-loop
     μ-loop
-    array-read-next
-    add-next
-    array-write-next
+    element-copy-out-counts
+    add-counts
+    element-write-counts
     add-j
     loop-holds
-    array-read-least-entry
+    element-copy-out-least-entry
     least-entry-requires
-    array-write-next-2
+    element-write-counts-2
     add-j-2
     loop-less
     loop-again

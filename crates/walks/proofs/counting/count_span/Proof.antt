@@ -6,66 +6,64 @@ use native.Mathlib.Omega.{arith}
 use borrow.Author.Tests.{not-true, not-false}
 use lib.ListN.{length}
 use Rattle.model.specs.Lists.{keep}
-use Rattle.model.specs.Clocks.{clockAt}
-use Rattle.model.specs.Cuts.{cutsBetween}
 use Rattle.model.specs.Lexical.{lexBefore}
-use Rattle.steps.specs.declared.lex.Span.{Span}
 use Rattle.steps.specs.Walk.{Standing}
-use Rattle.steps.proofs.Walks.{walk-begins, all-from-first, walk-ends, walk-goes-on, walk-stands}
+use Rattle.steps.proofs.Walks.{walked, walk-begins, all-from-first, walk-ends, walk-goes-on, walk-stands}
 use Rattle.walks.proofs.Counts.{counted-all, counted-over}
 use Rattle.walks.proofs.counting.count_span.Statement.{statement}
 use Rattle.walks.proofs.counting.count_span.Tie as tie
 
-abbrev cuts : List ℕ → Span → List (List ℕ)
-cuts clocks span = cutsBetween (clockAt clocks) (span .low .counts) (span .high .counts)
-
-abbrev behind : List ℕ → Span → List ℕ → List (List ℕ)
-behind clocks span G = keep (lexBefore G) (cuts clocks span)
+abbrev behind : List ℕ → List ℕ → List ℕ → List ℕ → List (List ℕ)
+behind clocks low high G = keep (lexBefore G) (walked clocks low high)
 
 abbrev Inv-loop : tie.InvT-loop
-Inv-loop n clocks span cut₀ count₀ cut count = Standing n clocks (span .low .counts) (span .high .counts) (cut .counts) × (count + length (behind clocks span (cut .counts)) ≡ length (cuts clocks span)) × (count < 2 ^ 64)
+Inv-loop n clocks low high counts₀ count₀ counts count = Standing n clocks low high counts × (count + length (behind clocks low high counts) ≡ length (walked clocks low high)) × (count < 2 ^ 64)
 
 abbrev μ-loop : tie.MeasureT-loop
-μ-loop n clocks span cut₀ count₀ cut count = length (behind clocks span (cut .counts))
+μ-loop n clocks low high counts₀ count₀ counts count = length (behind clocks low high counts)
 
--- where a next cut was found, it stands next behind the last
-goes-on : (c : tie.Else1 Inv-loop μ-loop) → behind (c .before .before .before .before .before .before .args .clocks .now) (c .before .before .before .before .before .before .args .span) (c .before .before .before .loop .cut .counts) ≡ (c .before .before .next-cut .result .cut .counts ∷ behind (c .before .before .before .before .before .before .args .clocks .now) (c .before .before .before .before .before .before .args .span) (c .before .before .next-cut .result .cut .counts))
-goes-on c =
-    walk-goes-on (c .before .before .before .before .before .before .args .n) (c .before .before .before .before .before .before .args .clocks .now) (c .before .before .before .before .before .before .args .span .low .counts) (c .before .before .before .before .before .before .args .span .high .counts) (c .before .before .before .before .before .before .pre) (c .before .before .before .loop .cut) (c .before .before .before .loop .inv .0) (c .before .before .next-cut .result) (c .before .before .next-cut .ensures) (not-false (c .before .before .next-cut .result .found) (c .if1 .left))
+-- the turn's loop, from behind its step
+abbrev turn : tie.After-next-cut Inv-loop μ-loop → tie.At-loop Inv-loop μ-loop
+turn c = c .before .before .before .before
 
 loop-holds : tie.Need-loop-holds Inv-loop μ-loop
-loop-holds c = (
-  walk-begins (c .before .before .args .n) (c .before .before .args .clocks .now) (c .before .before .args .span .low .counts) (c .before .before .args .span .high .counts) (c .before .before .pre),
-  omega (arith, ap length (all-from-first (c .before .before .args .n) (c .before .before .args .clocks .now) (c .before .before .args .span .low .counts) (c .before .before .args .span .high .counts) (c .before .before .pre))),
-  omega arith,
-)
+loop-holds c =
+    let span = c .before .before .before .before .before .pre in
+    (walk-begins span, omega (arith, ap length (all-from-first span)), omega arith)
 
 next-cut-requires : tie.Need-next-cut-requires Inv-loop μ-loop
-next-cut-requires c κs = c .loop .inv .0
+next-cut-requires c κs = c .before .before .before .loop .inv .0
 
 returns : tie.Need-returns Inv-loop μ-loop
 returns c =
-    let l = c .before .before .before .loop in
-    let ended = walk-ends (c .before .before .before .before .before .before .args .n) (c .before .before .before .before .before .before .args .clocks .now) (c .before .before .before .before .before .before .args .span .low .counts) (c .before .before .before .before .before .before .args .span .high .counts) (c .before .before .before .before .before .before .pre) (l .cut) (l .inv .0) (c .before .before .next-cut .result) (c .before .before .next-cut .ensures) (not-true (c .before .before .next-cut .result .found) (c .if1 .taken)) in
+    let l = turn (c .before) .loop in
+    let ended = walk-ends (l .inv .0) (c .before .next-cut .ensures) (not-true (c .before .next-cut .result) (c .if1 .taken)) in
     counted-all _ (l .count) (omega (arith, l .inv .1, ap length ended)) (l .inv .2)
 
 returns-2 : tie.Need-returns-2 Inv-loop μ-loop
 returns-2 c =
-    let l = c .before .before .before .before .loop in
-    counted-over _ (omega (arith, l .inv .1, ap length (goes-on (c .before)), c .if2 .taken))
+    let n = c .before .before in
+    let l = turn n .loop in
+    let more = walk-goes-on (l .inv .0) (n .next-cut .ensures) (not-false (n .next-cut .result) (c .before .if1 .left)) in
+    counted-over _ (omega (arith, l .inv .1, ap length more, c .if2 .taken))
 
 add-count : tie.Need-add-count Inv-loop μ-loop
-add-count c = omega (arith, c .before .before .before .before .loop .inv .2)
+add-count c = omega (arith, turn (c .before .before) .loop .inv .2)
 
 loop-less : tie.Need-loop-less Inv-loop μ-loop
-loop-less c = omega (arith, ap length (goes-on (c .before .before)))
+loop-less c =
+    let n = c .before .before in
+    let more = walk-goes-on (turn n .loop .inv .0) (n .next-cut .ensures) (not-false (n .next-cut .result) (c .before .if1 .left)) in
+    omega (arith, ap length more)
 
 loop-again : tie.Need-loop-again Inv-loop μ-loop
 loop-again c =
-    let l = c .before .before .before .before .before .loop in (
-      walk-stands (c .before .before .before .before .before .before .before .before .args .n) (c .before .before .before .before .before .before .before .before .args .clocks .now) (c .before .before .before .before .before .before .before .before .args .span .low .counts) (c .before .before .before .before .before .before .before .before .args .span .high .counts) (c .before .before .before .before .before .before .before .before .pre) (l .cut) (l .inv .0) (c .before .before .before .before .next-cut .result) (c .before .before .before .before .next-cut .ensures) (not-false (c .before .before .before .before .next-cut .result .found) (c .before .before .if1 .left)),
-      omega (arith, l .inv .1, ap length (goes-on (c .before .before))),
-      omega (arith, l .inv .2, c .before .if2 .left),
+    let n = c .before .before in
+    let l = turn n .loop in
+    let found = not-false (n .next-cut .result) (c .before .if1 .left) in (
+      walk-stands (l .inv .0) (n .next-cut .ensures) found,
+      omega (arith, l .inv .1, ap length (walk-goes-on (l .inv .0) (n .next-cut .ensures) found)),
+      omega (arith, l .inv .2, c .if2 .left),
     )
 
 pub count-span-spec : {M : Type 1} → statement M
