@@ -1,5 +1,5 @@
 -- The ways through counting and asking, each as its outcome.
-use mathlib.Core.Path.{_≡_, refl, sym, ap, ap₂, _∙_, subst₂}
+use mathlib.Core.Path.{_≡_, refl, sym, ap, ap₂, _∙_}
 use mathlib.Core.Bool.{Bool, true, false, cond, not, false≢true}
 use mathlib.Core.List.{List}
 use Prim.Native.Nat.{ℕ, _≤_, _<_}
@@ -9,33 +9,16 @@ use Rattle.model.specs.declared.Record.{Record}
 use Rattle.model.specs.declared.Position.{Position}
 use Rattle.model.specs.declared.Range.the-variants.{Interval, Whole}
 use Rattle.model.specs.declared.Job.{Job}
-use Rattle.model.specs.Lists.{zeros, keep}
-use Rattle.model.specs.Follow.{tallies}
-use Rattle.model.specs.Store.{Store, storeOf, clocksOf, talliesOf, storeRefusal}
-use Rattle.model.specs.Cuts.{cutsBetween, gmin, interval, allCuts, cutsIn}
+use Rattle.model.specs.Lists.{keep}
+use Rattle.model.specs.Store.{Store, storeOf, storeRefusal}
+use Rattle.model.specs.Cuts.{interval, cutsIn}
 use Rattle.model.specs.Questions.{meets, firstOf, answer}
-use Rattle.model.proofs.Bounds.{whole-range}
 use Rattle.store.proofs.Outcomes.{when-zero, when-some}
-use Rattle.cuts.specs.Walk.{Span}
-use Rattle.cuts.specs.Counting.{fits64, CountedTo}
-use Rattle.cuts.specs.Spans.{IntervalSpan, TraceSpan}
-use Rattle.cuts.specs.Asking.{AskedOf}
+use Rattle.walks.specs.Counting.{fits64, CountedTo}
+use Rattle.steps.specs.Spans.{IntervalSpan, TraceSpan}
+use Rattle.walks.specs.Finding.{AskedOf}
 use Rattle.cuts.specs.Outcomes.{SoundTrace, CountOutcome, countIn, counting, AskOutcome, refusedAsking, rangeKnown, questionFits, RangeRead, askIn, asking}
-use Rattle.cuts.proofs.Bounding.{interval-walk, trace-walk}
-
--- the range that was read is the interval's, or the whole trace's
-pub interval-cuts : (s : Store) (p : ℕ) (low high : List ℕ) → low ≡ gmin s p → high ≡ tallies (s .order) p → cutsBetween (clocksOf s) low high ≡ interval s p
-unfolding interval
-interval-cuts s p low high l h = ap₂ (cutsBetween (clocksOf s)) l h
-
-pub trace-cuts : (s : Store) (low high : List ℕ) → low ≡ zeros → high ≡ talliesOf s → cutsBetween (clocksOf s) low high ≡ allCuts s
-trace-cuts s low high l h = ap₂ (cutsBetween (clocksOf s)) l h ∙ sym (whole-range s)
-
-pub interval-span : (s : Store) → storeRefusal s ≡ 0 → (p : ℕ) → p ≤ s .events → (low high : List ℕ) → low ≡ gmin s p → high ≡ tallies (s .order) p → Span (s .tablets) (s .clocks) low high
-interval-span s none p within low high l h = subst₂ (Span (s .tablets) (s .clocks)) (sym l) (sym h) (interval-walk s none p within)
-
-pub trace-span : (s : Store) → storeRefusal s ≡ 0 → (low high : List ℕ) → low ≡ zeros → high ≡ talliesOf s → Span (s .tablets) (s .clocks) low high
-trace-span s none low high l h = subst₂ (Span (s .tablets) (s .clocks)) (sym l) (sym h) (trace-walk s none)
+use Rattle.steps.proofs.Bounding.{interval-cuts, trace-cuts, interval-span, trace-span}
 
 -- counting
 module _ (s : Store) (p : ℕ) where

@@ -1,14 +1,5 @@
--- Laws of the model that the proofs of this crate's functions cite.
-pub mod Entries
-pub mod Raise
-pub mod Below
-pub mod Bounding
-pub mod Walks
-pub mod Counts
-pub mod Holdings
-pub mod Firsts
+-- Laws that the proofs of this crate's functions cite.
 pub mod Answers
-pub mod Progress
 pub mod Listings
 pub mod Gathering
 pub mod Unique

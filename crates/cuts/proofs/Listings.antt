@@ -1,11 +1,13 @@
 -- The ways through a listing, each as its outcome.
 use mathlib.Core.Path.{_≡_, sym, ap, ap₂, _∙_}
 use mathlib.Core.Bool.{Bool, true, false, cond, not, _&&_}
-use mathlib.Core.List.{List}
+use mathlib.Core.List.{List, []}
 use Prim.Native.Nat.{ℕ, _≤_, _<_}
+use native.Mathlib.Omega.{arith}
 use borrow.Author.Tests.{lt-ltb, le-ltb}
 use lib.Dec.{ltb}
 use lib.ListN.{length}
+use lib.Seq.{take-all}
 use Rattle.model.specs.declared.Place.{Place}
 use Rattle.model.specs.Lists.{keep}
 use Rattle.model.specs.Clocks.{clockAt, covered}
@@ -17,27 +19,37 @@ use Rattle.model.proofs.Tests.{from-true, and-left, and-right}
 use Rattle.model.proofs.Entries.{covered-at-most}
 use Rattle.model.proofs.Ranges.{consistent-holds}
 use Rattle.store.proofs.Outcomes.{when-zero, when-some}
-use Rattle.cuts.specs.declared.lex.Next.{Next}
+use Rattle.walks.specs.Showing.{ShownOf}
 use Rattle.cuts.specs.declared.Listed.{Listed}
-use Rattle.cuts.specs.Walk.{Span, Standing}
-use Rattle.cuts.specs.Listing.{toShow, ShownOf, done, more, ListOutcome, listed, RefusedAs, ListedAs, refusedListing, shownFrom, listOf, inInterval, listIn, listing}
-use Rattle.cuts.proofs.Answers.{interval-cuts}
+use Rattle.steps.specs.Walk.{Span, Standing}
+use Rattle.cuts.specs.Listing.{room, written, behindAll, done, more, ListOutcome, listed, RefusedAs, ListedAs, refusedListing, shownFrom, listOf, inInterval, listIn, listing}
+use Rattle.steps.proofs.Bounding.{interval-cuts}
 
 pub refused-listed : (r : Listed) (number : ℕ) (place : Place) (out : List ℕ) → RefusedAs number place r → listed r out ≡ refusedListing number place out
 refused-listed r number place out told =
     λ i. record { refusal = told .number-is i; said = told .said-is i; count = told .count-is i; place = told .place-is i; output = out }
 
 -- what was shown, told as an outcome
-pub shown-listed : (r : Listed) (cuts : List (List ℕ)) (from : Next) (rest : List (List ℕ)) (place : Place) (out : List ℕ) (count : ℕ) (after : Place) (later : Bool) (result : List ℕ) → ShownOf cuts from place out count after later result → ListedAs count after later r → toShow cuts from ≡ rest → listed r result ≡ shownFrom rest place out
-shown-listed r cuts from rest place out count after later result shown told same =
+pub shown-listed : (r : Listed) (shown rest : List (List ℕ)) (place : Place) (out : List ℕ) (count : ℕ) (after : Place) (later : Bool) (result : List ℕ) → ShownOf shown out count after later result → ListedAs count after later r → shown ≡ rest → listed r result ≡ shownFrom rest place out
+shown-listed r shown rest place out count after later result told said same =
     (λ i. record {
-      refusal = told .number-is i;
-      said = (told .said-is ∙ ap (λ (b : Bool). cond b more done) (shown .more-is)) i;
-      count = (told .count-is ∙ shown .count-is) i;
-      place = (told .place-is ∙ shown .place-is) i;
-      output = shown .output-is i;
+      refusal = said .number-is i;
+      said = (said .said-is ∙ ap (λ (b : Bool). cond b more done) (told .more-is)) i;
+      count = (said .count-is ∙ told .count-is) i;
+      place = (said .place-is ∙ told .place-is place) i;
+      output = told .output-is i;
     })
     ∙ ap (λ (l : List (List ℕ)). shownFrom l place out) same
+
+-- nothing was left to show
+pub none-listed : (rest : List (List ℕ)) (place : Place) (out : List ℕ) → rest ≡ [] → record { refusal = 0; said = done; count = 0; place = place; output = out } ≡ shownFrom rest place out
+none-listed rest place out none =
+    sym
+    (ap (λ (l : List (List ℕ)). shownFrom l place out) none
+    ∙ ap₂ (λ (b : Bool) (l : List (List ℕ)). outcome b l) (le-ltb (room out) 0 (omega arith)) (take-all (room out) [] (omega arith)))
+  where
+    outcome : Bool → List (List ℕ) → ListOutcome
+    outcome b l = record { refusal = 0; said = cond b more done; count = length l; place = behindAll place l; output = written l out }
 
 -- a cut that passes the test stands in the range
 pub stand-inside : (n : ℕ) (clocks low high G : List ℕ) → Span n clocks low high → length G ≡ 8 → (covered low G && consistent (clockAt clocks) high G) ≡ true → Standing n clocks low high G

@@ -21,7 +21,7 @@ use Rattle.model.proofs.Sound.{Sound}
 use Rattle.model.proofs.Agree.{consistent-same, tallies-same, gmin-same, interval-same, answer-same}
 use Rattle.store.proofs.Ready.{tested-sound}
 use Rattle.store.proofs.Outcomes.{when-zero}
-use Rattle.cuts.specs.Counting.{fits64}
+use Rattle.walks.specs.Counting.{fits64}
 use Rattle.cuts.specs.Outcomes.{CountOutcome, countIn, counting, AskOutcome, refusedAsking, questionFits, askIn, asking}
 use Rattle.cuts.specs.Listing.{ListOutcome, refusedListing, listOf, inInterval, listIn, listing}
 

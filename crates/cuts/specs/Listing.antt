@@ -1,62 +1,23 @@
 -- Document 01, "Listing".
 use mathlib.Core.Path.{_≡_}
-use Prim.Native.Nat.{ℕ, _*_, _/_, _≤_, _<_}
-use mathlib.Core.Bool.{Bool, true, false, cond, not, _&&_}
-use mathlib.Core.List.{List, [], _∷_, _++_}
+use Prim.Native.Nat.{ℕ}
+use mathlib.Core.Bool.{Bool, false, cond, not, _&&_}
+use mathlib.Core.List.{List}
 use lib.Dec.{ltb, eqb}
-use lib.ListN.{length, take, drop}
+use lib.ListN.{length, take}
 use Rattle.model.specs.declared.Place.{Place}
-use Rattle.model.specs.Lists.{at, zeros, keep}
+use Rattle.model.specs.Lists.{zeros, keep}
 use Rattle.model.specs.Refusals.{numberOf}
 use Rattle.model.specs.Clocks.{covered}
 use Rattle.model.specs.Store.{Store, clocksOf, storeRefusal}
 use Rattle.model.specs.Cuts.{consistent, gmin, gbnd, interval}
 use Rattle.model.specs.Lexical.{lexBefore}
-use Rattle.cuts.specs.declared.lex.Next.{Next}
+pub use Rattle.walks.specs.Showing.{flat, room, written, behindAll}
 use Rattle.cuts.specs.declared.Listing.{Listing}
 use Rattle.cuts.specs.declared.Listing.the-variants.{Done, More, Refused}
 use Rattle.cuts.specs.declared.Listed.{Listed}
 use Rattle.cuts.specs.declared.Moved.{Moved}
 use Rattle.cuts.specs.declared.Gathered.{Gathered}
-use Rattle.cuts.specs.Walk.{Span, Standing}
-
--- the clocks are of full size and each event that the cut names has a slot
-pub record CutReady (clocks counts : List ℕ) : Type 0 where
-  pub full : 16256 ≤ length clocks
-  pub stored : (j : ℕ) → j < 8 → at counts j ≤ 254
-
--- the range, and where a next cut was found, that it is one of its cuts
-pub record Pending (n : ℕ) (clocks low high : List ℕ) (from : Next) : Type 0 where
-  pub span : Span n clocks low high
-  pub stand : from .found ≡ true → Standing n clocks low high (from .cut .counts)
-
--- what is still to be shown: nothing, or the next cut and all that stand behind it
-abbrev pub toShow : List (List ℕ) → Next → List (List ℕ)
-toShow cuts from = cond (from .found) (from .cut .counts ∷ keep (lexBefore (from .cut .counts)) cuts) []
-
--- "Whole cuts of 8 bytes are written from the front of a lent output"
-abbrev pub flat : List (List ℕ) → List ℕ
-flat [] = []
-flat (G ∷ Gs) = G ++ flat Gs
-
-abbrev pub room : List ℕ → ℕ
-room out = length out / 8
-
--- "the rest of the output stays"
-abbrev pub written : List (List ℕ) → List ℕ → List ℕ
-written shown out = flat shown ++ drop (8 * length shown) out
-
--- "The place then is begun and holds the last cut written, or is unchanged if none was."
-abbrev pub behindAll : Place → List (List ℕ) → Place
-behindAll place [] = place
-behindAll place (G ∷ Gs) = behindAll (record { begun = true; cut = record { counts = G } }) Gs
-
--- "lexically rising, as many as fit or remain"
-pub record ShownOf (cuts : List (List ℕ)) (from : Next) (place : Place) (out : List ℕ) (count : ℕ) (after : Place) (more : Bool) (result : List ℕ) : Type 0 where
-  pub count-is : count ≡ length (take (room out) (toShow cuts from))
-  pub place-is : after ≡ behindAll place (take (room out) (toShow cuts from))
-  pub more-is : more ≡ ltb (room out) (length (toShow cuts from))
-  pub output-is : result ≡ written (take (room out) (toShow cuts from)) out
 
 -- what is said of a listing; with a refusal nothing is
 pub data Said : Type 0 where

@@ -6,8 +6,6 @@ use mathlib.Core.List.{List}
 use lib.Dec.{leb, ltb, eqb}
 use lib.ListN.{length}
 use Rattle.model.specs.declared.Record.{Record}
-use Rattle.model.specs.declared.Question.{Question}
-use Rattle.model.specs.declared.Question.the-variants.{AtLeast, Exactly, All}
 use Rattle.model.specs.declared.Range.{Range}
 use Rattle.model.specs.declared.Range.the-variants.{Interval, Whole}
 use Rattle.model.specs.declared.Job.{Job}
@@ -16,13 +14,14 @@ use Rattle.model.specs.Refusals.{numberOf, verdictNumber}
 use Rattle.model.specs.Store.{Store, storeOf, storeRefusal}
 use Rattle.model.specs.Clocks.{clockAt}
 use Rattle.model.specs.Cuts.{cutsBetween, interval, cutsIn}
-use Rattle.model.specs.Questions.{setFits, answer}
+use Rattle.model.specs.Questions.{answer}
+use Rattle.steps.specs.Walk.{Span}
+pub use Rattle.questions.specs.Holdings.{questionFits}
+pub use Rattle.walks.specs.Counting.{fits64}
 use Rattle.cuts.specs.declared.Counted.{Counted}
 use Rattle.cuts.specs.declared.Answer.{Answer}
 use Rattle.cuts.specs.declared.Answer.the-variants.{Found, NoCut, Refused}
 use Rattle.cuts.specs.declared.Asked.{Asked}
-use Rattle.cuts.specs.Walk.{Span}
-use Rattle.cuts.specs.Counting.{fits64}
 
 -- a record with clocks and order that make a sound store with some held values, which the cuts do not depend on
 pub record SoundTrace (r : Record) (clocks order : List ℕ) : Type 0 where
@@ -71,15 +70,10 @@ asked a = record { refusal = answerNumber (a .answer); found = answerFound (a .a
 abbrev pub refusedAsking : ℕ → AskOutcome
 refusedAsking number = record { refusal = number; found = false; cut = zeros }
 
--- "9: no such position"; "13: the named set is empty or names a tablet above n"
+-- "9: no such position"
 abbrev pub rangeKnown : Store → Range → Bool
 rangeKnown s (Interval p) = leb (p .0) (s .events)
 rangeKnown s Whole = true
-
-abbrev pub questionFits : ℕ → Question → Bool
-questionFits n (AtLeast k) = true
-questionFits n (Exactly k) = true
-questionFits n (All mask) = setFits n mask
 
 -- what is read of the range of a sound store: whether it is known, and where it is, its bounds
 pub record RangeRead (r : Record) (clocks order : List ℕ) (range : Range) (known : Bool) (low high : List ℕ) : Type 0 where

@@ -1,12 +1,9 @@
 // Consistent cuts of a stored trace: listing, counting, asking, gathering.
 // Each public call tests the store before all else and refuses by document 01's number; what it answers is fixed by its
 // contract for all inputs.
-mod asking;
-mod counting;
 pub mod inner;
-mod lex;
 mod lister;
-mod spans;
+mod ranges;
 
 use inner::answer_job;
 use inner::count_interval;

@@ -1,8 +1,8 @@
 -- `count_interval`: a position above T is refused; else the interval's range is counted.
 use mathlib.Core.Path.{refl}
 use Rattle.model.specs.Store.{storeOf}
-use Rattle.cuts.proofs.Bounding.{interval-ready}
-use Rattle.cuts.proofs.Answers.{interval-cuts, interval-span, count-outside, count-fits, count-over}
+use Rattle.steps.proofs.Bounding.{interval-ready, interval-cuts, interval-span}
+use Rattle.cuts.proofs.Answers.{count-outside, count-fits, count-over}
 use borrow.Author.Needs.{needs}
 use Rattle.cuts.proofs.inner.count_interval.Statement.{statement}
 use Rattle.cuts.proofs.inner.count_interval.Tie as tie

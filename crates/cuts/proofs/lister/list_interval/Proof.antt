@@ -1,8 +1,7 @@
 -- `list_interval`: 9 for a position above T, 14 for an output under 8 bytes, else the interval's range is listed.
 use mathlib.Core.Path.{refl}
 use Rattle.model.specs.Store.{storeOf}
-use Rattle.cuts.proofs.Bounding.{interval-ready}
-use Rattle.cuts.proofs.Answers.{interval-span}
+use Rattle.steps.proofs.Bounding.{interval-ready, interval-span}
 use Rattle.cuts.proofs.Listings.{refused-listed, list-no-position, list-short, list-within}
 use borrow.Author.Needs.{needs}
 use Rattle.cuts.proofs.lister.list_interval.Statement.{statement}
@@ -37,7 +36,7 @@ list-span-requires : tie.Need-list-span-requires
 list-span-requires c κs =
     let s = (storeOf (c .before .before .before .before .before .before .before .before .before .args .«record») (c .before .before .before .before .before .before .before .before .before .args .clocks .now) (c .before .before .before .before .before .before .before .before .before .pre .held) (c .before .before .before .before .before .before .before .before .before .args .order .now)) in
     let bounds = c .before .before .interval-span .ensures in
-    interval-span s (c .before .before .before .before .before .before .before .before .before .pre .none) (c .before .before .before .before .before .before .before .before .before .args .position .0) (c .before .before .before .before .if1 .left) _ _ (bounds .low-is s refl refl) (bounds .high-is)
+    (interval-span s (c .before .before .before .before .before .before .before .before .before .pre .none) (c .before .before .before .before .before .before .before .before .before .args .position .0) (c .before .before .before .before .if1 .left) _ _ (bounds .low-is s refl refl) (bounds .high-is), c .before .before .before .if2 .left)
 
 same-length : tie.Need-same-length
 same-length c = search needs

@@ -1,0 +1,125 @@
+-- `can_raise`: the entries passed so far are in the cut; one that is not ends the loop.
+use mathlib.Core.Path.{_≡_, refl, sym, ap, _∙_}
+use mathlib.Core.Bool.{true}
+use Prim.Native.Nat.{ℕ, _+_, _-_, _*_, _≤_}
+use native.Mathlib.Omega.{arith}
+use borrow.Author.Tests.{le-leb}
+use lib.ListN.{length}
+use Rattle.model.specs.Lists.{at, allBelow}
+use Rattle.model.specs.Numbers.{slot}
+use Rattle.model.specs.Clocks.{clockIn, clockAt}
+use Rattle.model.proofs.Tests.{allBelow-more}
+use Rattle.steps.proofs.Entries.{entry-byte, readyAt, raise-no-room, raise-unready, raise-ready}
+use Rattle.steps.proofs.lex.can_raise.Statement.{statement}
+use Rattle.steps.proofs.lex.can_raise.Tie as tie
+
+abbrev Inv-loop : tie.InvT-loop
+Inv-loop clocks high counts k from j₀ j = (j ≤ k) × (allBelow j (readyAt (clockAt clocks) counts k) ≡ true)
+
+abbrev μ-loop : tie.MeasureT-loop
+μ-loop clocks high counts k from j₀ j = k - j
+
+-- where the call began, from behind the call of slot_of
+abbrev start : tie.After-slot-of Inv-loop μ-loop → tie.Start Inv-loop μ-loop
+start c = c .before .before .before .before .before .before
+
+-- the next event's slot is within the clocks, and its entries are the bytes there
+home : (c : tie.After-slot-of Inv-loop μ-loop) → 8 * c .slot-of .result + 8 ≤ length (start c .args .clocks .now)
+unfolding slot
+home c = omega (arith, c .slot-of .ensures, c .before .before .if1 .left)
+
+byte : (c : tie.In-loop Inv-loop μ-loop) → at (clockIn (start (c .before .before) .args .clocks .now) (slot (start (c .before .before) .args .k) (at (start (c .before .before) .args .counts .now) (start (c .before .before) .args .k) + 1))) (c .before .loop .j) ≡ at (start (c .before .before) .args .clocks .now) (8 * c .before .before .slot-of .result + c .before .loop .j)
+byte c =
+    let a = start (c .before .before) .args in
+    entry-byte (a .clocks .now) (slot (a .k) (at (a .counts .now) (a .k) + 1)) (c .before .before .slot-of .result) (c .before .loop .j) (c .before .before .slot-of .ensures) (omega arith)
+
+element-copy-out-if1 : tie.Need-element-copy-out-if1 Inv-loop μ-loop
+element-copy-out-if1 c = omega arith
+
+element-copy-out-if1-2 : tie.Need-element-copy-out-if1-2 Inv-loop μ-loop
+element-copy-out-if1-2 c = omega arith
+
+returns : tie.Need-returns Inv-loop μ-loop
+returns c =
+    let a = c .before .before .before .before .args in
+    sym (raise-no-room (clockAt (a .clocks .now)) (a .high .now) (a .counts .now) (a .k) (c .if1 .taken))
+
+element-copy-out-slot-of : tie.Need-element-copy-out-slot-of Inv-loop μ-loop
+element-copy-out-slot-of c = omega arith
+
+cast-slot-of : tie.Need-cast-slot-of Inv-loop μ-loop
+cast-slot-of c = omega arith
+
+add-slot-of : tie.Need-add-slot-of Inv-loop μ-loop
+add-slot-of c = omega arith
+
+slot-of-requires : tie.Need-slot-of-requires Inv-loop μ-loop
+slot-of-requires c κs = (omega arith, omega arith, omega arith)
+
+mul-from : tie.Need-mul-from Inv-loop μ-loop
+mul-from c = omega (arith, home c)
+
+loop-holds : tie.Need-loop-holds Inv-loop μ-loop
+loop-holds c = (omega arith, refl)
+
+element-copy-out-if2 : tie.Need-element-copy-out-if2 Inv-loop μ-loop
+element-copy-out-if2 c = omega arith
+
+add-if2 : tie.Need-add-if2 Inv-loop μ-loop
+add-if2 c = omega (arith, home (c .before .before .before))
+
+shared-slice-read-if2 : tie.Need-shared-slice-read-if2 Inv-loop μ-loop
+shared-slice-read-if2 c = omega (arith, home (c .before .before .before .before))
+
+returns-2 : tie.Need-returns-2 Inv-loop μ-loop
+returns-2 c =
+    let l = c .before .before .before in
+    let a = start (l .before .before) .args in
+    sym
+    (raise-unready (clockAt (a .clocks .now)) (a .high .now) (a .counts .now) (a .k) (l .before .loop .j) (l .loop-test .taken) (l .before .before .before .before .if1 .left)
+    (rw (byte l) (c .if2 .taken)))
+
+add-j : tie.Need-add-j Inv-loop μ-loop
+add-j c = omega arith
+
+loop-less : tie.Need-loop-less Inv-loop μ-loop
+loop-less c = omega arith
+
+loop-again : tie.Need-loop-again Inv-loop μ-loop
+loop-again c =
+    let l = c .before .before .before in
+    let a = start (l .before .before) .args in (
+      omega arith,
+      allBelow-more (l .before .loop .j) (readyAt (clockAt (a .clocks .now)) (a .counts .now) (a .k)) (l .before .loop .inv .1)
+          (rw (byte l) (le-leb _ _ (c .if2 .left))),
+    )
+
+returns-3 : tie.Need-returns-3 Inv-loop μ-loop
+returns-3 c =
+    let a = start (c .before .before) .args in
+    let e : c .before .loop .j ≡ a .k = omega arith in
+    sym (raise-ready (clockAt (a .clocks .now)) (a .high .now) (a .counts .now) (a .k) (c .before .before .before .before .if1 .left) (ap (λ (m : ℕ). allBelow m (readyAt (clockAt (a .clocks .now)) (a .counts .now) (a .k))) (sym e) ∙ c .before .loop .inv .1))
+
+pub can-raise-spec : {M : Type 1} → statement M
+can-raise-spec =
+    tie.close
+    (tie.spec
+    Inv-loop
+    μ-loop
+    element-copy-out-if1
+    element-copy-out-if1-2
+    returns
+    element-copy-out-slot-of
+    cast-slot-of
+    add-slot-of
+    slot-of-requires
+    mul-from
+    loop-holds
+    element-copy-out-if2
+    add-if2
+    shared-slice-read-if2
+    returns-2
+    add-j
+    loop-less
+    loop-again
+    returns-3)
