@@ -1,0 +1,61 @@
+-- "The whole output": its lines. "Each line ends in one LF."
+use Prim.Native.Nat.{ℕ, zero, suc, _+_}
+use mathlib.Core.Bool.{Bool, cond}
+use mathlib.Core.List.{List, [], _∷_, _++_}
+use lib.ListN.{length, take}
+use Rattle.model.specs.declared.Question.{Question}
+use Rattle.model.specs.declared.Range.the-variants.{Whole}
+use Rattle.model.specs.Store.{Store}
+use Rattle.model.specs.Cuts.{interval}
+use Rattle.model.specs.Questions.{Witness, answer}
+use Rattle.pieces.specs.Lines.{keyLine, listLine, pairLine}
+use Rattle.loglines.specs.Keys.{tabletsKey, eventsKey}
+
+-- "refused=", "interval=", "cuts=", "witness=", and the line "witness=none"
+abbrev pub refusedKey : List ℕ
+refusedKey = 114 ∷ 101 ∷ 102 ∷ 117 ∷ 115 ∷ 101 ∷ 100 ∷ 61 ∷ []
+
+abbrev pub intervalKey : List ℕ
+intervalKey = 105 ∷ 110 ∷ 116 ∷ 101 ∷ 114 ∷ 118 ∷ 97 ∷ 108 ∷ 61 ∷ []
+
+abbrev pub cutsKey : List ℕ
+cutsKey = 99 ∷ 117 ∷ 116 ∷ 115 ∷ 61 ∷ []
+
+abbrev pub witnessKey : List ℕ
+witnessKey = 119 ∷ 105 ∷ 116 ∷ 110 ∷ 101 ∷ 115 ∷ 115 ∷ 61 ∷ []
+
+abbrev pub noWitness : List ℕ
+noWitness = 119 ∷ 105 ∷ 116 ∷ 110 ∷ 101 ∷ 115 ∷ 115 ∷ 61 ∷ 110 ∷ 111 ∷ 110 ∷ 101 ∷ 10 ∷ []
+
+-- "A refusal prints only `refused=R,L`, number and line"
+abbrev pub refusedLine : ℕ → ℕ → List ℕ
+refusedLine number line = pairLine refusedKey number line
+
+-- "`interval` is position and count, one line for each position 0 to T in turn": the lines of the positions below one
+abbrev pub intervalLines : (ℕ → ℕ) → ℕ → List ℕ
+intervalLines count zero = []
+intervalLines count (suc p) = intervalLines count p ++ pairLine intervalKey p (count p)
+
+-- "`witness` has n entries, or is `witness=none`"
+unfoldable pub witnessLine : ℕ → Bool → List ℕ → List ℕ
+witnessLine n found cut = cond found (listLine witnessKey (take n cut)) noWitness
+
+-- "`tablets` is n and `events` is T"
+unfoldable pub headLines : ℕ → ℕ → List ℕ
+headLines n events = keyLine tabletsKey n ++ keyLine eventsKey events
+
+-- "`cuts` their sum; `witness` .."
+unfoldable pub tailLines : ℕ → ℕ → Bool → List ℕ → List ℕ
+tailLines n sum found cut = keyLine cutsKey sum ++ witnessLine n found cut
+
+unfoldable pub answerLines : ℕ → ℕ → (ℕ → ℕ) → ℕ → Bool → List ℕ → List ℕ
+answerLines n events count sum found cut =
+    headLines n events ++ (intervalLines count (events + 1) ++ tailLines n sum found cut)
+
+-- "The question is put to the whole trace."
+abbrev pub witnessOf : Store → Question → Witness
+witnessOf s question = answer s (record { question = question; range = Whole })
+
+-- the number of cuts of interval p
+abbrev pub countOf : Store → ℕ → ℕ
+countOf s p = length (interval s p)

@@ -1,0 +1,53 @@
+// What `cutcheck` prints: from the bytes of its input to the bytes of its output, over lent buffers.
+mod answers;
+mod inputs;
+mod printing;
+mod refusals;
+mod totals;
+
+use answers::answer_read;
+use inputs::Look;
+use inputs::look_at;
+use lines::find::line_length;
+use model::Refusal;
+use model::Verdict;
+use refusals::refuse;
+ghost use mathlib.Core.Path.{_≡_};
+ghost use Rattle.report.specs.Report.{printed, outcome, reporting};
+
+// What a report answers: "answered" or a refusal with its line, and how many bytes at the front of the output are to be
+// printed.
+pub struct Reported {
+    pub verdict: Verdict,
+    pub line: usize,
+    pub length: usize,
+}
+
+// Puts what is to be printed for an input to the front of an output. The trace is read into the three buffers, and the store
+// is tested once.
+pub fn make_report(
+    input: &[u8],
+    clocks: &mut [u8],
+    held: &mut [u16],
+    order: &mut [u8],
+    out: &mut [u8],
+) -> Reported
+    ensures { λ r. ⌜ outcome (printed r (now (out .exit))) (now (clocks .exit)) (now (held .exit)) (now (order .exit)) ≡ reporting (now (input .entry)) (now (clocks .entry)) (now (held .entry)) (now (order .entry)) (now (out .entry)) ⌝ }
+{
+    if out.len() < 71680 {
+        return Reported {
+            verdict: Verdict::Refused(Refusal::ShortOutput),
+            line: 0,
+            length: 0,
+        };
+    }
+    let seen = look_at(input);
+    match seen {
+        Look::Refuses(why) => refuse(why, 0, out),
+        Look::Asks(question) => {
+            let trace = line_length(input) + 1;
+            let read = text::read(&input[trace..], clocks, held, order);
+            answer_read(question, read, clocks, held, order, out)
+        }
+    }
+}
