@@ -1,5 +1,5 @@
-// Counting and listing for programs in other languages: the calls of `cuts` under names and with parameters that C and Rust
-// can declare. Each tests the store before all else.
+// Counting, listing and the whole report for programs in other languages: calls of `cuts` and `report` under names and with
+// parameters that C and Rust can declare.
 use model::Cut;
 use model::Place;
 use model::Position;
@@ -7,7 +7,8 @@ use model::Record;
 ghost use mathlib.Core.Path.{_≡_};
 ghost use Rattle.cuts.specs.Outcomes.{counting};
 ghost use Rattle.cuts.specs.Listing.{listing, fresh};
-ghost use Rattle.exports.specs.Calls.{storeFrom};
+ghost use Rattle.report.specs.Report.{reporting};
+ghost use Rattle.exports.specs.Calls.{storeFrom, sent, sentOf};
 
 // The number of cuts of an interval, or 0 on a refusal.
 #[no_mangle]
@@ -47,4 +48,19 @@ pub extern "C" fn chongyeori_list(
     };
     let listed = cuts::list(record, clocks, held, order, Position(position), place, out);
     listed.written as u64
+}
+
+// Puts what `cutcheck` prints to the front of an output, and gives how many bytes that is.
+#[no_mangle]
+pub extern "C" fn chongyeori_report(
+    input: &[u8],
+    clocks: &mut [u8],
+    held: &mut [u16],
+    order: &mut [u8],
+    out: &mut [u8],
+) -> usize
+    ensures { λ r. ⌜ sent r (now (out .exit)) (now (clocks .exit)) (now (held .exit)) (now (order .exit)) ≡ sentOf (reporting (now (input .entry)) (now (clocks .entry)) (now (held .entry)) (now (order .entry)) (now (out .entry))) ⌝ }
+{
+    let reported = report::make_report(input, clocks, held, order, out);
+    reported.length
 }
