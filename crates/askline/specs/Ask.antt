@@ -32,6 +32,7 @@ abbrev pub orAsk : Number → (ℕ → Question) → AskLine → AskLine
 orAsk (Value k) question other = Ask (question k)
 orAsk NoNumber question other = other
 
+-- a set asks that all its tablets hold a block; "`ask=all,` without a tablet is a faulty line"
 abbrev pub askSet : Named → AskLine
 askSet set = cond (set .fits) (Ask (All (set .mask))) Faulty
 

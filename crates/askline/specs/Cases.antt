@@ -1,12 +1,15 @@
 -- Ask lines that are easy to get wrong, as one table of tests.
-use Prim.Native.Nat.{ℕ}
+use Prim.Native.Nat.{ℕ, _-_}
 use mathlib.Core.Bool.{Bool, true, false, _&&_}
 use mathlib.Core.List.{List, [], _∷_, _++_}
 use lib.Dec.{eqb}
-use Rattle.model.specs.declared.Question.{Question}
 use Rattle.model.specs.declared.Question.the-variants.{AtLeast, Exactly, All}
+use Rattle.model.specs.Lists.{allBelow, keep}
+use Rattle.model.specs.Questions.{names}
 use Rattle.askline.specs.declared.AskLine.{AskLine}
 use Rattle.askline.specs.declared.AskLine.the-variants.{Ask, Faulty}
+use Rattle.askline.specs.declared.sets.Named.{Named}
+use Rattle.askline.specs.Sets.{naming}
 use Rattle.askline.specs.Ask.{atLeastKey, exactlyKey, allKey, askLine}
 
 abbrev pub atLeast : ℕ → AskLine → Bool
@@ -35,6 +38,16 @@ faulty Faulty = true
 abbrev pub line : List ℕ → List ℕ → AskLine
 line key value = askLine (key ++ (value ++ (10 ∷ 116 ∷ 10 ∷ [])))
 
+-- the tablets that a mask names, and that their list gives that mask back: of every set
+abbrev pub tabletsOf : ℕ → List ℕ
+tabletsOf mask = keep (λ tablet. names mask (tablet - 1)) (1 ∷ 2 ∷ 3 ∷ 4 ∷ 5 ∷ 6 ∷ 7 ∷ 8 ∷ [])
+
+abbrev pub gives : Named → ℕ → Bool
+gives set mask = set .fits && eqb (set .mask) mask
+
+abbrev pub everySet : Bool
+everySet = allBelow 256 (λ mask. gives (naming 0 0 (tabletsOf mask)) mask)
+
 abbrev pub table : List Bool
 table =
     -- 0, and the largest K; one more is faulty, and so are 01 and no number
@@ -56,6 +69,13 @@ table =
     ∷ faulty (line allKey (49 ∷ 44 ∷ []))
     ∷ faulty (line allKey (44 ∷ 49 ∷ []))
     ∷ faulty (line allKey (49 ∷ 44 ∷ 44 ∷ 50 ∷ []))
+    -- nine tablets; a blank, CR, and a second number behind K
+    ∷ faulty (line allKey (49 ∷ 44 ∷ 50 ∷ 44 ∷ 51 ∷ 44 ∷ 52 ∷ 44 ∷ 53 ∷ 44 ∷ 54 ∷ 44 ∷ 55 ∷ 44 ∷ 56 ∷ 44 ∷ 57 ∷ []))
+    ∷ faulty (line atLeastKey (50 ∷ 32 ∷ []))
+    ∷ faulty (line atLeastKey (50 ∷ 13 ∷ []))
+    ∷ faulty (line atLeastKey (50 ∷ 44 ∷ 51 ∷ []))
+    -- every set of tablets
+    ∷ everySet
     -- no input, a lone LF, a line without its LF
     ∷ faulty (askLine [])
     ∷ faulty (askLine (10 ∷ []))

@@ -12,6 +12,7 @@ abbrev pub bit : ℕ → ℕ
 bit zero = 1
 bit (suc j) = 2 * bit j
 
+-- how many commas (byte 44) part a list
 abbrev pub commas : List ℕ → ℕ
 commas [] = 0
 commas (b ∷ bs) = cond (eqb b 44) (suc (commas bs)) (commas bs)
@@ -20,7 +21,8 @@ commas (b ∷ bs) = cond (eqb b 44) (suc (commas bs)) (commas bs)
 abbrev pub unnamed : Named
 unnamed = record { fits = false; mask = 0 }
 
--- tablets behind one that was the last (0: none yet), with the mask of those before: each above the last, and at most 8
+-- tablets behind one that was the last (0: none yet), with the mask of those before: each above the last, and so above 0 and
+-- strictly rising, and at most 8
 abbrev pub naming : ℕ → ℕ → List ℕ → Named
 naming last mask [] = record { fits = true; mask = mask }
 naming last mask (tablet ∷ rest) =

@@ -1,5 +1,5 @@
-// For the layers above: counting and asking of a store that its caller knows to be sound, so that a report tests the store
-// once and not once an interval.
+// For the layers above: counting and asking of a store that its caller knows to be sound, so that a report does not test the
+// store once an interval.
 use crate::Answer;
 use crate::Asked;
 use crate::Counted;

@@ -1,13 +1,14 @@
 -- Document 01's own example, byte for byte, and refusals that are easy to get wrong, as one table of tests.
 use Prim.Native.Nat.{ℕ, _-_}
-use mathlib.Core.Bool.{Bool}
+use mathlib.Core.Bool.{Bool, _&&_}
 use mathlib.Core.List.{List, [], _∷_, _++_}
+use lib.Dec.{eqb}
 use lib.ListN.{length, take, replicate}
 use Rattle.model.specs.Cases.{same}
-use Rattle.askline.specs.Ask.{atLeastKey, allKey}
-use Rattle.pieces.specs.Lines.{keyLine, listLine}
+use Rattle.askline.specs.Ask.{atLeastKey, exactlyKey, allKey}
+use Rattle.pieces.specs.Lines.{keyLine, listLine, pairLine}
 use Rattle.loglines.specs.Keys.{tabletsKey, tabletKey, clockKey, heldKey, eventsKey}
-use Rattle.report.specs.Printing.{noWitness, refusedLine}
+use Rattle.report.specs.Printing.{intervalKey, cutsKey, witnessKey, noWitness, refusedLine}
 use Rattle.report.specs.Report.{Printed, reporting}
 
 -- printed from an input, into fresh buffers
@@ -29,6 +30,14 @@ traceB =
     ++ (event 1 (1 ∷ 0 ∷ []) 1
     ++ (event 1 (2 ∷ 0 ∷ []) 0
     ++ (event 2 (0 ∷ 1 ∷ []) 1 ++ (event 2 (0 ∷ 2 ∷ []) 0 ++ keyLine eventsKey 4))))
+
+-- trace A: 1/1,0/1; 2/0,1/0; 1/2,0/0; 2/2,2/1
+abbrev pub traceA : List ℕ
+traceA =
+    keyLine tabletsKey 2
+    ++ (event 1 (1 ∷ 0 ∷ []) 1
+    ++ (event 2 (0 ∷ 1 ∷ []) 0
+    ++ (event 1 (2 ∷ 0 ∷ []) 0 ++ (event 2 (2 ∷ 2 ∷ []) 1 ++ keyLine eventsKey 4))))
 
 abbrev pub ask : List ℕ → List ℕ
 ask value = atLeastKey ++ (value ++ (10 ∷ []))
@@ -59,11 +68,30 @@ outputB =
 abbrev pub askTwo : List ℕ
 askTwo = 97 ∷ 115 ∷ 107 ∷ 61 ∷ 97 ∷ 116 ∷ 108 ∷ 101 ∷ 97 ∷ 115 ∷ 116 ∷ 44 ∷ 50 ∷ 10 ∷ []
 
+abbrev pub linesA : List ℕ
+linesA =
+    keyLine tabletsKey 2
+    ++ (keyLine eventsKey 4
+    ++ (pairLine intervalKey 0 1
+    ++ (pairLine intervalKey 1 1
+    ++ (pairLine intervalKey 2 2 ++ (pairLine intervalKey 3 2 ++ (pairLine intervalKey 4 1 ++ keyLine cutsKey 7))))))
+
+abbrev pub earlyA : List ℕ
+earlyA = keyLine tabletsKey 2 ++ (event 1 (1 ∷ 0 ∷ []) 1 ++ (event 2 (0 ∷ 1 ∷ []) 0 ++ event 2 (2 ∷ 2 ∷ []) 1))
+
+abbrev pub shortLeft : Printed → Bool
+shortLeft p = eqb (p .refusal) 14 && eqb (p .line) 0 && eqb (p .length) 0 && same (p .output) (replicate 71679 7)
+
 abbrev pub table : List Bool
 table =
     prints (askTwo ++ traceB) outputB
     -- at least 3: no witness, and the other lines are the same
     ∷ prints (ask (51 ∷ []) ++ traceB) (take (length outputB - 12) outputB ++ noWitness)
+    -- A: intervals 1,1,2,2,1; exactly 0 gives 0,0, set {2} gives 2,2
+    ∷ prints (exactlyKey ++ (48 ∷ 10 ∷ traceA)) (linesA ++ listLine witnessKey (0 ∷ 0 ∷ []))
+    ∷ prints (allKey ++ (50 ∷ 10 ∷ traceA)) (linesA ++ listLine witnessKey (2 ∷ 2 ∷ []))
+    -- after A's first two, 2/2,2 is refused 6, at its `held` line
+    ∷ prints (askTwo ++ earlyA) (refusedLine 6 10)
     -- tablet 3 of 2 in the set: 13, line 0, once the trace was read; a faulty trace comes before it, and a faulty ask line first
     ∷ prints (allKey ++ (51 ∷ 10 ∷ traceB)) (refusedLine 13 0)
     ∷ prints (allKey ++ (51 ∷ 10 ∷ (traceB ++ (10 ∷ [])))) (refusedLine 12 15)
@@ -72,6 +100,12 @@ table =
     ∷ prints askTwo (refusedLine 12 1)
     -- tablets 9: refused 1 at line 1
     ∷ prints (askTwo ++ keyLine tabletsKey 9) (refusedLine 1 1)
+    -- 65,537 bytes: 15 before the faulty ask line that they are, and 65,536 are not too many
+    ∷ prints (replicate 65537 10) (refusedLine 15 0)
+    ∷ prints (replicate 65536 10) (refusedLine 12 0)
+    -- a store buffer too short: 2, once the ask line was read; an output too short: 14, and it is left as it was
+    ∷ same (take 12 (reporting (askTwo ++ traceB) [] [] [] (replicate 71680 0) .printed .output)) (refusedLine 2 0)
+    ∷ shortLeft (reporting (askTwo ++ traceB) [] [] [] (replicate 71679 7) .printed)
     -- no input
     ∷ prints [] (refusedLine 12 0)
     ∷ []

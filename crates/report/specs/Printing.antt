@@ -48,6 +48,7 @@ headLines n events = keyLine tabletsKey n ++ keyLine eventsKey events
 unfoldable pub tailLines : ℕ → ℕ → Bool → List ℕ → List ℕ
 tailLines n sum found cut = keyLine cutsKey sum ++ witnessLine n found cut
 
+-- the whole output, for a number of tablets and of events, the count of each position, their sum, and a witness or none
 unfoldable pub answerLines : ℕ → ℕ → (ℕ → ℕ) → ℕ → Bool → List ℕ → List ℕ
 answerLines n events count sum found cut =
     headLines n events ++ (intervalLines count (events + 1) ++ tailLines n sum found cut)

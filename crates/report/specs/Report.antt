@@ -29,8 +29,8 @@ use Rattle.report.specs.declared.inputs.Look.{Look}
 use Rattle.report.specs.declared.inputs.Look.the-variants.{Asks, Refuses}
 use Rattle.report.specs.Printing.{refusedLine, answerLines, witnessOf, countOf}
 
--- The refusal's number, 0 for none, its line, 0 where there is none to name, how many bytes are to be printed, and the output
--- at exit, which has them at its front.
+-- The refusal's number, 0 for none; its line, where 0 is the ask line or none to name; how many bytes are to be printed; and the
+-- output at exit, which has them at its front.
 pub record Printed : Type 0 where
   pub refusal : ℕ
   pub line : ℕ
@@ -55,7 +55,7 @@ counting s found cut out =
     cond (fits64 (total s)) (shown 0 0 (answerLines (s .tablets) (s .events) (countOf s) (total s) found cut) out)
     (refusedShown 11 0 out)
 
--- "13 with line 0"
+-- "13 with line 0", once the trace was read
 unfoldable pub answering : Store → Question → List ℕ → Printed
 answering s question out =
     cond (questionFits (s .tablets) question)
@@ -82,7 +82,7 @@ unfoldable pub tracing : ReadOutcome → Question → List ℕ → ReportOutcome
 tracing r question out =
     outcome (answeringRead r question out) (r .store .clocks) (r .store .held) (r .store .order)
 
--- "Checks: 15 with line 0, ask line, ..": 12 for a faulty ask line
+-- What is seen before the trace is read: "15 with line 0, ask line". A faulty ask line is 12.
 abbrev pub looked : AskLine → Look
 looked (Ask question) = Asks question
 looked Faulty = Refuses FaultyLine
@@ -95,12 +95,13 @@ abbrev pub following : Look → List ℕ → List ℕ → List ℕ → List ℕ 
 following (Refuses why) trace clocks held order out = outcome (refusedShown (numberOf why) 0 out) clocks held order
 following (Asks question) trace clocks held order out = tracing (reading trace clocks held order) question out
 
--- An output of 71,680 bytes holds every report: tablets and events take at most 22 bytes, 2,033 interval lines 35 each, cuts 26
--- and witness 40. A shorter one is refused 14 before all else, and is left as it was.
+-- Our choice, since document 01 has no rule for a report's output: it has 71,680 bytes or more, as the store's buffers are of
+-- full size, and a shorter one is refused 14 before all else and left as it was. No report is longer than 71,243 bytes: tablets
+-- and events take at most 22, 2,033 interval lines 35 each, cuts 26 and witness 40.
 abbrev pub room : ℕ
 room = 71680
 
--- ".. trace, 13 with line 0."
+-- "Checks: 15 with line 0, ask line, trace, 13 with line 0."
 unfoldable pub reporting : List ℕ → List ℕ → List ℕ → List ℕ → List ℕ → ReportOutcome
 reporting input clocks held order out =
     cond (ltb (length out) room) (outcome (record { refusal = 14; line = 0; length = 0; output = out }) clocks held order)

@@ -23,8 +23,8 @@ pub struct Reported {
     pub length: usize,
 }
 
-// Puts what is to be printed for an input to the front of an output. The trace is read into the three buffers, and the store
-// is tested once.
+// Puts what is to be printed for an input to the front of an output. The trace is read into the three buffers: reading tests
+// each event as it takes it and so leaves a sound store, which nothing tests again.
 pub fn make_report(
     input: &[u8],
     clocks: &mut [u8],

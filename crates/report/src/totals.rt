@@ -25,7 +25,7 @@ fn too_large() -> Totals
     }
 }
 
-// The store is not tested here: one test serves all intervals.
+// The store is not tested here: its caller knows it to be sound.
 pub(crate) fn count_all(record: Record, clocks: &[u8], order: &[u8], counts: &mut [u64]) -> Totals
     requires { ⌜ SoundTrace «record» (now clocks) (now order) × (2033 ≤ length (now counts)) ⌝ }
     ensures { λ r. ⌜ ForTrace «record» (now (clocks .entry)) (now (order .entry)) (λ s. CountedAll s (r .fits) (r .sum) (now (counts .exit))) ⌝ }
