@@ -80,7 +80,7 @@ abbrev pub earlyA : List ℕ
 earlyA = keyLine tabletsKey 2 ++ (event 1 (1 ∷ 0 ∷ []) 1 ++ (event 2 (0 ∷ 1 ∷ []) 0 ++ event 2 (2 ∷ 2 ∷ []) 1))
 
 abbrev pub shortLeft : Printed → Bool
-shortLeft p = eqb (p .refusal) 14 && eqb (p .line) 0 && eqb (p .length) 0 && same (p .output) (replicate 71679 7)
+shortLeft p = eqb (p .refusal) 14 && eqb (p .line) 0 && eqb (p .length) 0 && same (p .output) (7 ∷ 7 ∷ [])
 
 abbrev pub table : List Bool
 table =
@@ -105,7 +105,7 @@ table =
     ∷ prints (replicate 65536 10) (refusedLine 12 0)
     -- a store buffer too short: 2, once the ask line was read; an output too short: 14, and it is left as it was
     ∷ same (take 12 (reporting (askTwo ++ traceB) [] [] [] (replicate 71680 0) .printed .output)) (refusedLine 2 0)
-    ∷ shortLeft (reporting (askTwo ++ traceB) [] [] [] (replicate 71679 7) .printed)
+    ∷ shortLeft (reporting (askTwo ++ traceB) [] [] [] (7 ∷ 7 ∷ []) .printed)
     -- no input
     ∷ prints [] (refusedLine 12 0)
     ∷ []
