@@ -24,9 +24,11 @@ use Rattle.cuts.specs.declared.Answer.the-variants.{Refused}
 use Rattle.cuts.specs.Outcomes.{AskOutcome, answerNumber, answerFound, asked, refusedAsking, askIn}
 use Rattle.pieces.specs.Lines.{pairLine}
 use Rattle.text.specs.Reading.{ReadOutcome}
-use Rattle.report.specs.Printing.{intervalKey, intervalLines, headLines, tailLines, answerLines, witnessOf, countOf}
-use Rattle.report.specs.Report.{Printed, shown, refusedShown, counting, answering, answeringRead, CountedAll, LinesAt}
-use Rattle.report.proofs.Showing.{sets-front}
+use Rattle.sheet.specs.Printing.{intervalKey, intervalLines, headLines, tailLines, answerLines}
+use Rattle.report.specs.Answers.{witnessOf, countOf}
+use Rattle.sheet.specs.Sheets.{LinesAt}
+use Rattle.report.specs.Report.{Printed, shown, refusedShown, counting, answering, answeringRead, CountedAll}
+use Rattle.sheet.proofs.Placing.{sets-front}
 
 -- the witness, by whether the question fits
 abbrev pick : Bool → Witness → AskOutcome

@@ -18,7 +18,7 @@ use Rattle.model.proofs.Refusals.{passed-zero, refused-some}
 use Rattle.cuts.specs.declared.Counted.{Counted}
 use Rattle.walks.specs.Counting.{fits64}
 use Rattle.cuts.specs.Outcomes.{CountOutcome, counted, countIn}
-use Rattle.report.specs.Printing.{countOf}
+use Rattle.report.specs.Answers.{countOf}
 
 -- a sum of more is no smaller
 sum-grows : (f : ℕ → ℕ) (more p q : ℕ) → more + p ≡ q → sumBelow p f ≤ sumBelow q f

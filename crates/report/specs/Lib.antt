@@ -1,4 +1,4 @@
 -- Document 01, "What cutcheck prints".
-pub mod Printing
+pub mod Answers
 pub mod Report
 pub mod Cases

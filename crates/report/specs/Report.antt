@@ -5,7 +5,6 @@ use mathlib.Core.Bool.{Bool, true, cond}
 use mathlib.Core.List.{List, _++_}
 use lib.Dec.{ltb, eqb}
 use lib.ListN.{length, drop}
-use lib.Seq.{sets}
 use Rattle.model.specs.declared.Record.{Record}
 use Rattle.model.specs.declared.Question.{Question}
 use Rattle.model.specs.Lists.{at}
@@ -17,8 +16,6 @@ use Rattle.model.specs.Cuts.{total}
 use Rattle.walks.specs.Counting.{fits64}
 use Rattle.questions.specs.Holdings.{questionFits}
 use Rattle.lines.specs.Find.{restLines}
-use Rattle.pieces.specs.declared.Piece.{Piece}
-use Rattle.pieces.specs.Pieces.{grown, emptyPiece}
 use Rattle.askline.specs.declared.AskLine.{AskLine}
 use Rattle.askline.specs.declared.AskLine.the-variants.{Ask, Faulty}
 use Rattle.askline.specs.Ask.{askLine}
@@ -27,7 +24,9 @@ use Rattle.text.specs.Reading.{ReadOutcome, reading}
 use Rattle.report.specs.declared.Reported.{Reported}
 use Rattle.report.specs.declared.inputs.Look.{Look}
 use Rattle.report.specs.declared.inputs.Look.the-variants.{Asks, Refuses}
-use Rattle.report.specs.Printing.{refusedLine, answerLines, witnessOf, countOf}
+use Rattle.sheet.specs.Printing.{refusedLine, answerLines}
+use Rattle.sheet.specs.Sheets.{room}
+use Rattle.report.specs.Answers.{witnessOf, countOf}
 
 -- The refusal's number, 0 for none; its line, where 0 is the ask line or none to name; how many bytes are to be printed; and the
 -- output at exit, which has them at its front.
@@ -95,12 +94,6 @@ abbrev pub following : Look → List ℕ → List ℕ → List ℕ → List ℕ 
 following (Refuses why) trace clocks held order out = outcome (refusedShown (numberOf why) 0 out) clocks held order
 following (Asks question) trace clocks held order out = tracing (reading trace clocks held order) question out
 
--- Our choice, since document 01 has no rule for a report's output: it has 71,680 bytes or more, as the store's buffers are of
--- full size, and a shorter one is refused 14 before all else and left as it was. No report is longer than 71,243 bytes: tablets
--- and events take at most 22, 2,033 interval lines 35 each, cuts 26 and witness 40.
-abbrev pub room : ℕ
-room = 71680
-
 -- "Checks: 15 with line 0, ask line, trace, 13 with line 0."
 unfoldable pub reporting : List ℕ → List ℕ → List ℕ → List ℕ → List ℕ → ReportOutcome
 reporting input clocks held order out =
@@ -123,22 +116,3 @@ ForTrace r clocks order fact = (held : List ℕ) → fact (storeOf r clocks held
 pub record Answerable (read : ReadAnswer) (clocks held order out : List ℕ) : Type 0 where
   pub sound : read .verdict ≡ Passed → storeRefusal (storeOf (read .record) clocks held order) ≡ 0
   pub fits : room ≤ length out
-
--- what writing an answer may assume: a number of tablets and of events, a count for each position, eight entries, the room
-pub record Writable (r : Record) (counts cut out : List ℕ) : Type 0 where
-  pub some : 1 ≤ r .tablets
-  pub most : r .tablets ≤ 8
-  pub few : r .events ≤ 2032
-  pub counted : 2033 ≤ length counts
-  pub entries : 8 ≤ length cut
-  pub fits : room ≤ length out
-
--- a piece that has a text and nothing else
-pub record Holds (piece : Piece) (text : List ℕ) : Type 0 where
-  pub holds : piece ≡ grown emptyPiece text
-  pub short : length text ≤ 64
-
--- lines written at an offset: the offset behind them, and the output at exit
-pub record LinesAt (out : List ℕ) (at : ℕ) (lines : List ℕ) (behind : ℕ) (exit : List ℕ) : Type 0 where
-  pub behind-is : behind ≡ at + length lines
-  pub exit-is : exit ≡ sets out at lines

@@ -1,6 +1,5 @@
 // The answer to a question on a text that was read. Nothing is written before every line is known.
 use crate::Reported;
-use crate::printing::write_answer;
 use crate::refusals::refuse;
 use crate::totals::count_all;
 use cuts::Answer;
@@ -12,6 +11,7 @@ use model::Range;
 use model::Record;
 use model::Refusal;
 use model::Verdict;
+use sheet::write_answer;
 use text::reading::ReadAnswer;
 ghost use mathlib.Core.Path.{_≡_};
 ghost use Prim.Native.Nat.{_≤_};
@@ -19,7 +19,8 @@ ghost use lib.ListN.{length};
 ghost use Rattle.model.specs.Store.{storeOf, storeRefusal};
 ghost use Rattle.cuts.specs.Outcomes.{SoundTrace};
 ghost use Rattle.text.specs.Reading.{readOutcome};
-ghost use Rattle.report.specs.Report.{printed, counting, answering, answeringRead, room, ForTrace, Answerable};
+ghost use Rattle.sheet.specs.Sheets.{room};
+ghost use Rattle.report.specs.Report.{printed, counting, answering, answeringRead, ForTrace, Answerable};
 
 // Counts all intervals, and only then writes. The counts stay in a local array until their sum is known to fit.
 fn count_and_write(

@@ -1,7 +1,6 @@
 // What `cutcheck` prints: from the bytes of its input to the bytes of its output, over lent buffers.
 mod answers;
 mod inputs;
-mod printing;
 mod refusals;
 mod totals;
 

@@ -11,7 +11,7 @@ use Rattle.model.specs.Lists.{at, sumBelow}
 use Rattle.model.specs.Store.{Store, storeOf}
 use Rattle.store.proofs.Theorems.{sound-limits}
 use Rattle.questions.proofs.Laws.{sum-more}
-use Rattle.report.specs.Printing.{countOf}
+use Rattle.report.specs.Answers.{countOf}
 use Rattle.report.proofs.Sums.{each-more, count-given, count-over, sum-over, sum-whole, sum-within}
 use Rattle.report.proofs.totals.count_all.Statement.{statement}
 use Rattle.report.proofs.totals.count_all.Tie as tie

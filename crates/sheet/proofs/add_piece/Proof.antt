@@ -7,10 +7,10 @@ use borrow.Rule.Slice.PartMut.{putMid}
 use lib.ListN.{length, take}
 use lib.Seq.{sets}
 use Rattle.pieces.proofs.Growing.{contents-length}
-use Rattle.report.proofs.Showing.{piece-text, part-sets}
+use Rattle.sheet.proofs.Placing.{piece-text, part-sets}
 use borrow.Author.Needs.{needs}
-use Rattle.report.proofs.printing.add_piece.Statement.{statement}
-use Rattle.report.proofs.printing.add_piece.Tie as tie
+use Rattle.sheet.proofs.add_piece.Statement.{statement}
+use Rattle.sheet.proofs.add_piece.Tie as tie
 
 sub-copy-out : tie.Need-sub-copy-out
 sub-copy-out c = search needs

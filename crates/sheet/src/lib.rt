@@ -1,4 +1,4 @@
-// The lines of an answer, one behind the other in the output.
+// The sheet that `cutcheck` prints for an answer: its lines, one behind the other in the output. Nothing here knows a store.
 use loglines::keys::EVENTS;
 use loglines::keys::TABLETS;
 use model::Record;
@@ -15,8 +15,8 @@ ghost use Prim.Native.Nat.{ℕ, _+_, _*_, _≤_};
 ghost use lib.ListN.{length};
 ghost use Rattle.model.specs.Lists.{at};
 ghost use Rattle.pieces.specs.Pieces.{grown, emptyPiece};
-ghost use Rattle.report.specs.Printing.{intervalLines, witnessLine, headLines, tailLines, answerLines};
-ghost use Rattle.report.specs.Report.{room, Holds, Writable, LinesAt};
+ghost use Rattle.sheet.specs.Printing.{intervalLines, witnessLine, headLines, tailLines, answerLines};
+ghost use Rattle.sheet.specs.Sheets.{room, Holds, Writable, LinesAt};
 
 const INTERVAL: [u8; 9] = *b"interval=";
 
@@ -82,7 +82,7 @@ fn add_tail(n: usize, sum: u64, found: bool, cut: &[u8], at: usize, out: &mut [u
 }
 
 // All lines of an answer; gives their length.
-pub(crate) fn write_answer(
+pub fn write_answer(
     record: Record,
     counts: &[u64],
     sum: u64,

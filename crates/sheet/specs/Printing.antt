@@ -2,12 +2,7 @@
 use Prim.Native.Nat.{ℕ, zero, suc, _+_}
 use mathlib.Core.Bool.{Bool, cond}
 use mathlib.Core.List.{List, [], _∷_, _++_}
-use lib.ListN.{length, take}
-use Rattle.model.specs.declared.Question.{Question}
-use Rattle.model.specs.declared.Range.the-variants.{Whole}
-use Rattle.model.specs.Store.{Store}
-use Rattle.model.specs.Cuts.{interval}
-use Rattle.model.specs.Questions.{Witness, answer}
+use lib.ListN.{take}
 use Rattle.pieces.specs.Lines.{keyLine, listLine, pairLine}
 use Rattle.loglines.specs.Keys.{tabletsKey, eventsKey}
 
@@ -52,11 +47,3 @@ tailLines n sum found cut = keyLine cutsKey sum ++ witnessLine n found cut
 unfoldable pub answerLines : ℕ → ℕ → (ℕ → ℕ) → ℕ → Bool → List ℕ → List ℕ
 answerLines n events count sum found cut =
     headLines n events ++ (intervalLines count (events + 1) ++ tailLines n sum found cut)
-
--- "The question is put to the whole trace."
-abbrev pub witnessOf : Store → Question → Witness
-witnessOf s question = answer s (record { question = question; range = Whole })
-
--- the number of cuts of interval p
-abbrev pub countOf : Store → ℕ → ℕ
-countOf s p = length (interval s p)
