@@ -14,6 +14,15 @@ use refusals::refuse;
 ghost use mathlib.Core.Path.{_≡_};
 ghost use Rattle.report.specs.Report.{printed, outcome, reporting};
 
+// One byte more than document 01 allows, enough to know that an input is too long.
+pub const INPUT_SIZE: usize = 65537;
+// Enough for the answer of the longest input.
+pub const OUTPUT_SIZE: usize = 71680;
+// The store's buffers: a slot for each event that fits, and eight bytes of clock for each slot.
+pub const SLOTS: usize = 2032;
+
+pub const CLOCKS_SIZE: usize = 16256;
+
 // What a report answers: "answered" or a refusal with its line, and how many bytes at the front of the output are to be
 // printed.
 pub struct Reported {

@@ -1,6 +1,10 @@
 // Runs each day of data/ through the crate `report` and compares what it makes, byte by byte, with the answer stored
 // beside the day. One line for each day: its name and `same`, or where the two first differ.
 use libc::STDOUT_FILENO;
+use report::CLOCKS_SIZE;
+use report::INPUT_SIZE;
+use report::OUTPUT_SIZE;
+use report::SLOTS;
 ghost use Prim.Native.Nat.{_≤_};
 ghost use Rattle.io.specs.Counts.{Counts};
 
@@ -86,12 +90,12 @@ fn compare_report(out: &[u8], length: usize, stored: &[u8]) {
 }
 
 fn compare(day: &[u8], answer: &[u8]) {
-    let mut input = [0u8; 65537];
-    let mut stored = [0u8; 71681];
-    let mut clocks = [0u8; 16256];
-    let mut held = [0u16; 2032];
-    let mut order = [0u8; 2032];
-    let mut out = [0u8; 71680];
+    let mut input = [0u8; INPUT_SIZE];
+    let mut stored = [0u8; OUTPUT_SIZE + 1];
+    let mut clocks = [0u8; CLOCKS_SIZE];
+    let mut held = [0u16; SLOTS];
+    let mut order = [0u8; SLOTS];
+    let mut out = [0u8; OUTPUT_SIZE];
     let given = load(day, &mut input);
     let expected = load(answer, &mut stored);
     let reported = report::make_report(
@@ -115,4 +119,6 @@ fn main() {
     compare(b"named-set.txt", b"named-set.answer");
     compare(b"noon-count.txt", b"noon-count.answer");
     compare(b"long-day.txt", b"long-day.answer");
+    compare(b"full-day.txt", b"full-day.answer");
+    compare(b"two-days.txt", b"two-days.answer");
 }

@@ -6,11 +6,11 @@ use lib.Seq.{length-take-le}
 use Rattle.cutcheck.proofs.write_answer.Statement.{statement}
 use Rattle.cutcheck.proofs.write_answer.Tie as tie
 
-slice-aggregate-write-all : tie.Need-slice-aggregate-write-all
-slice-aggregate-write-all c = sym (length-take-le _ _ (omega arith))
+slice-aggregate-put : tie.Need-slice-aggregate-put
+slice-aggregate-put c = sym (length-take-le _ _ (omega arith))
 
-write-all-requires : tie.Need-write-all-requires
-write-all-requires c κs = search needs
+put-requires : tie.Need-put-requires
+put-requires c κs = search needs
 
 returns : tie.Need-returns
 returns c = search needs
@@ -19,4 +19,4 @@ returns-2 : tie.Need-returns-2
 returns-2 c = search needs
 
 pub write-answer-spec : {M : Type 1} → statement M
-write-answer-spec = tie.close (tie.spec slice-aggregate-write-all write-all-requires returns returns-2)
+write-answer-spec = tie.close (tie.spec slice-aggregate-put put-requires returns returns-2)
