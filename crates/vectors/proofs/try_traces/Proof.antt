@@ -1,0 +1,53 @@
+use borrow.Author.Needs.{needs}
+use Prim.Native.Nat.{_-_}
+use Rattle.vectors.proofs.try_traces.Statement.{statement}
+use Rattle.vectors.proofs.try_traces.Tie as tie
+
+abbrev Inv-loop : tie.InvT-loop
+Inv-loop book₀ out₀ clocks₀ held₀ order₀ turn₀ book out clocks held order turn = Unit {0}
+
+abbrev μ-loop : tie.MeasureT-loop
+μ-loop book₀ out₀ clocks₀ held₀ order₀ turn₀ book out clocks held order turn = 320 - turn
+
+loop-holds : tie.Need-loop-holds Inv-loop μ-loop
+loop-holds c = tt
+
+cell-requires : tie.Need-cell-requires Inv-loop μ-loop
+cell-requires c κs = tt
+
+try-trace-requires : tie.Need-try-trace-requires Inv-loop μ-loop
+try-trace-requires c κs = tt
+
+cell-requires-2 : tie.Need-cell-requires-2 Inv-loop μ-loop
+cell-requires-2 c κs = tt
+
+say-trace-requires : tie.Need-say-trace-requires Inv-loop μ-loop
+say-trace-requires c κs = tt
+
+add-turn : tie.Need-add-turn Inv-loop μ-loop
+add-turn c = search needs
+
+loop-less : tie.Need-loop-less Inv-loop μ-loop
+loop-less c = search needs
+
+loop-again : tie.Need-loop-again Inv-loop μ-loop
+loop-again c = tt
+
+returns : tie.Need-returns Inv-loop μ-loop
+returns c = tt
+
+pub try-traces-spec : {M : Type 1} → statement M
+try-traces-spec =
+    tie.close
+    (tie.spec
+    Inv-loop
+    μ-loop
+    loop-holds
+    cell-requires
+    try-trace-requires
+    cell-requires-2
+    say-trace-requires
+    add-turn
+    loop-less
+    loop-again
+    returns)
