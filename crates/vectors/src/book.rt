@@ -33,6 +33,11 @@ pub(crate) const SOME: u64 = 28672;
 
 pub(crate) const COPIED: u64 = 36864;
 
+// What a call wrote into its output, a byte to a cell; and the text that is read, likewise.
+pub(crate) const WRITTEN: u64 = 45056;
+
+pub(crate) const TEXT: u64 = 53248;
+
 pub(crate) fn tablets(book: &Book) -> u64 {
     cell(book, TABLETS)
 }

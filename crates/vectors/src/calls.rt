@@ -2,6 +2,9 @@
 // word that a call says is document 01's refusal number, 0 for none, or a number from 200 on.
 use crate::book::Row;
 use crate::book::event_of;
+use crate::cells::Clocks;
+use crate::cells::Held;
+use crate::cells::Order;
 use crate::cells::low_byte;
 use crate::cells::low_word;
 use crate::cells::packed;
@@ -93,7 +96,12 @@ fn plain(word: u64, number: u64, cut: u64) -> Said {
     }
 }
 
-pub(crate) fn call_check(record: Record, clocks: &[u8], held: &[u16], order: &[u8]) -> Said {
+// No call was made.
+pub(crate) fn nothing() -> Said {
+    plain(NOTHING, 0, 0)
+}
+
+fn call_check(record: Record, clocks: &[u8], held: &[u16], order: &[u8]) -> Said {
     let verdict = store::check(record, clocks, held, order);
     plain(verdict_word(verdict), 0, 0)
 }
@@ -106,9 +114,9 @@ pub(crate) struct Offered {
 
 pub(crate) fn call_accept(
     record: Record,
-    clocks: &mut [u8],
-    held: &mut [u16],
-    order: &mut [u8],
+    clocks: &mut Clocks,
+    held: &mut Held,
+    order: &mut Order,
     event: Row,
 ) -> Offered {
     let taken = store::accept(record, clocks, held, order, event_of(event));
@@ -120,25 +128,36 @@ pub(crate) fn call_accept(
     }
 }
 
-pub(crate) fn call_count(
-    record: Record,
-    clocks: &[u8],
-    held: &[u16],
-    order: &[u8],
-    p: u64,
-) -> Said {
-    let counted = cuts::count(record, clocks, held, order, Position(low_word(p)));
+fn call_count(record: Record, clocks: &[u8], held: &[u16], order: &[u8], request: Request) -> Said {
+    let position = Position(low_word(request.p));
+    let counted = cuts::count(record, clocks, held, order, position);
     let verdict = counted.verdict;
     plain(verdict_word(verdict), counted.count, 0)
 }
 
-// Where and how a listing is called: the interval, the place, the bytes that are lent.
-pub(crate) struct Spot {
+// What is asked of a store: which call, the interval or piece (`WHOLE` for the whole trace), the place, the bytes that are
+// lent, the question.
+pub(crate) struct Request {
+    pub call: u64,
     pub p: u64,
     pub begun: bool,
     pub cut: u64,
     pub length: u64,
+    pub asking: Asking,
 }
+
+// The calls by number. Any other number is the store's own test.
+pub(crate) const LIST: u64 = 1;
+
+pub(crate) const GATHER: u64 = 2;
+
+pub(crate) const COUNT: u64 = 3;
+
+pub(crate) const ASK: u64 = 4;
+
+pub(crate) const WRITE: u64 = 5;
+
+pub(crate) const CHECK: u64 = 6;
 
 fn place_of(begun: bool, cut: u64) -> Place {
     let counts = unpacked(cut);
@@ -161,20 +180,20 @@ fn listed_said(listed: Listed) -> Said {
     }
 }
 
-pub(crate) fn call_list(
+fn call_list(
     record: Record,
     clocks: &[u8],
     held: &[u16],
     order: &[u8],
-    spot: Spot,
+    request: Request,
     out: &mut [u8],
 ) -> Said {
-    let length = spot.length as usize;
+    let length = request.length as usize;
     if out.len() < length {
-        return plain(NOTHING, 0, 0);
+        return nothing();
     }
-    let place = place_of(spot.begun, spot.cut);
-    let position = Position(low_word(spot.p));
+    let place = place_of(request.begun, request.cut);
+    let position = Position(low_word(request.p));
     let listed = cuts::list(
         record,
         clocks,
@@ -187,19 +206,19 @@ pub(crate) fn call_list(
     listed_said(listed)
 }
 
-pub(crate) fn call_gather(
+fn call_gather(
     record: Record,
     clocks: &[u8],
     held: &[u16],
     order: &[u8],
-    spot: Spot,
+    request: Request,
     out: &mut [u8],
 ) -> Said {
-    let length = spot.length as usize;
+    let length = request.length as usize;
     if out.len() < length {
-        return plain(NOTHING, 0, 0);
+        return nothing();
     }
-    let position = Position(low_word(spot.p));
+    let position = Position(low_word(request.p));
     let gathered = cuts::gather(record, clocks, held, order, position, &mut out[..length]);
     let answer = gathered.answer;
     plain(listing_word(answer), gathered.written as u64, 0)
@@ -225,17 +244,11 @@ fn range_of(p: u64) -> Range {
     Range::Interval(Position(low_word(p)))
 }
 
-pub(crate) fn call_ask(
-    record: Record,
-    clocks: &[u8],
-    held: &[u16],
-    order: &[u8],
-    asking: Asking,
-    p: u64,
-) -> Said {
+fn call_ask(record: Record, clocks: &[u8], held: &[u16], order: &[u8], request: Request) -> Said {
+    let asking = request.asking;
     let job = Job {
         question: question_of(asking),
-        range: range_of(p),
+        range: range_of(request.p),
     };
     let asked = cuts::ask(record, clocks, held, order, job);
     let answer = asked.answer;
@@ -244,22 +257,42 @@ pub(crate) fn call_ask(
     plain(answer_word(answer), 0, packed(&counts))
 }
 
-pub(crate) fn call_write(
+fn call_write(
     record: Record,
     clocks: &[u8],
     held: &[u16],
     order: &[u8],
-    spot: Spot,
+    request: Request,
     out: &mut [u8],
 ) -> Said {
-    let length = spot.length as usize;
+    let length = request.length as usize;
     if out.len() < length {
-        return plain(NOTHING, 0, 0);
+        return nothing();
     }
-    let piece = Position(low_word(spot.p));
+    let piece = Position(low_word(request.p));
     let written = text::write(record, clocks, held, order, piece, &mut out[..length]);
     let verdict = written.verdict;
     plain(verdict_word(verdict), written.length as u64, 0)
+}
+
+// The call that is asked for.
+pub(crate) fn call(
+    record: Record,
+    clocks: &[u8],
+    held: &[u16],
+    order: &[u8],
+    request: Request,
+    out: &mut [u8],
+) -> Said {
+    let which = request.call;
+    match which {
+        LIST => call_list(record, clocks, held, order, request, out),
+        GATHER => call_gather(record, clocks, held, order, request, out),
+        COUNT => call_count(record, clocks, held, order, request),
+        ASK => call_ask(record, clocks, held, order, request),
+        WRITE => call_write(record, clocks, held, order, request, out),
+        _ => call_check(record, clocks, held, order),
+    }
 }
 
 // What reading said.
@@ -270,26 +303,22 @@ pub(crate) struct Told {
     pub events: u64,
 }
 
-// Reads the bytes of `out` from one index up to another.
+pub(crate) fn untold() -> Told {
+    Told {
+        word: NOTHING,
+        line: 0,
+        tablets: 0,
+        events: 0,
+    }
+}
+
 pub(crate) fn call_read(
-    out: &[u8],
-    from: u64,
-    to: u64,
+    text: &[u8],
     clocks: &mut [u8],
     held: &mut [u16],
     order: &mut [u8],
 ) -> Told {
-    let start = from as usize;
-    let end = to as usize;
-    if end < start || out.len() < end {
-        return Told {
-            word: NOTHING,
-            line: 0,
-            tablets: 0,
-            events: 0,
-        };
-    }
-    let answer = text::read(&out[start..end], clocks, held, order);
+    let answer = text::read(text, clocks, held, order);
     let verdict = answer.verdict;
     let record = answer.record;
     Told {

@@ -6,9 +6,7 @@ use std::num::wrapping_sub_u64;
 
 // The program's buffers are arrays of fixed size: lent as such, no proof has to follow their length through a loop. The store's
 // three have four slots more than document 01 asks.
-pub(crate) type Book = [u64; 45056];
-
-pub(crate) type Output = [u8; 147456];
+pub(crate) type Book = [u64; 184320];
 
 pub(crate) type Clocks = [u8; 16288];
 
@@ -16,14 +14,18 @@ pub(crate) type Held = [u16; 2036];
 
 pub(crate) type Order = [u8; 2036];
 
+pub(crate) type Output = [u8; 4352];
+
+pub(crate) type Text = [u8; 122880];
+
 pub(crate) fn cell(book: &Book, i: u64) -> u64 {
     let at = i as usize;
-    if at < 45056 { book[at] } else { 0 }
+    if at < 184320 { book[at] } else { 0 }
 }
 
 pub(crate) fn put(book: &mut Book, i: u64, v: u64) {
     let at = i as usize;
-    if at < 45056 {
+    if at < 184320 {
         book[at] = v;
     }
 }
@@ -31,13 +33,6 @@ pub(crate) fn put(book: &mut Book, i: u64, v: u64) {
 pub(crate) fn byte(s: &[u8], i: u64) -> u8 {
     let at = i as usize;
     if at < s.len() { s[at] } else { 0 }
-}
-
-pub(crate) fn put_output(out: &mut Output, i: u64, v: u8) {
-    let at = i as usize;
-    if at < 147456 {
-        out[at] = v;
-    }
 }
 
 pub(crate) fn word(s: &[u16], i: u64) -> u16 {

@@ -3,26 +3,22 @@ use crate::book::Row;
 use crate::book::add;
 use crate::book::clear;
 use crate::book::events;
+use crate::calls::COUNT;
 use crate::calls::FOUND;
 use crate::calls::NONE;
-use crate::calls::Told;
+use crate::calls::Request;
 use crate::calls::WHOLE;
-use crate::calls::call_ask;
-use crate::calls::call_count;
 use crate::cells::Book;
-use crate::cells::Clocks;
-use crate::cells::Held;
-use crate::cells::Order;
-use crate::cells::Output;
 use crate::cells::alone;
 use crate::cells::entry;
-use crate::cells::low_byte;
-use crate::cells::low_word;
 use crate::cells::with_entry;
+use crate::compare::no_question;
+use crate::compare::request_asking;
+use crate::lend::ask_store;
+use crate::lend::lend_sound;
 use crate::notes::FIXED;
 use crate::notes::same;
 use crate::notes::same_word;
-use crate::offers::mark_store;
 use crate::offers::offer;
 use crate::offers::open;
 use crate::second::AT_LEAST;
@@ -32,8 +28,8 @@ use crate::second::SET;
 use crate::second::follow_number;
 use crate::texts::compare_reading;
 use crate::texts::put_text;
+use crate::texts::read_whole;
 use crate::traces::compare_trace;
-use model::Record;
 use std::num::wrapping_add_u64;
 
 // A clock of two tablets.
@@ -97,180 +93,84 @@ fn count_of(which: u64, p: u64) -> u64 {
     }
 }
 
-fn offer_fixed(
-    book: &mut Book,
-    record: Record,
-    clocks: &mut Clocks,
-    held: &mut Held,
-    order: &mut Order,
-    which: u64,
-) -> Record {
-    let mut after = record;
+fn offer_fixed(book: &mut Book, which: u64) {
     let mut p: u64 = 0;
     while p < 4 {
         p += 1;
-        after = offer(book, after, clocks, held, order, event_of(which, p));
+        offer(book, event_of(which, p));
     }
-    after
 }
 
-fn count_fixed(
-    book: &mut Book,
-    record: Record,
-    clocks: &Clocks,
-    held: &Held,
-    order: &Order,
-    which: u64,
-) {
+fn counted(book: &mut Book, p: u64) -> u64 {
+    let request = Request {
+        call: COUNT,
+        p,
+        begun: false,
+        cut: 0,
+        length: 0,
+        asking: no_question(),
+    };
+    let got = ask_store(book, request);
+    got.number
+}
+
+fn count_fixed(book: &mut Book, which: u64) {
+    lend_sound(book);
     let mut p: u64 = 0;
     while p < 5 {
-        let got = call_count(record, clocks, held, order, p);
-        same(book, FIXED, count_of(which, p), got.number);
+        let got = counted(book, p);
+        same(book, FIXED, count_of(which, p), got);
         p += 1;
     }
 }
 
-fn ask_fixed(
-    book: &mut Book,
-    record: Record,
-    clocks: &Clocks,
-    held: &Held,
-    order: &Order,
-    asking: Asking,
-    word: u64,
-    cut: u64,
-) {
-    let got = call_ask(record, clocks, held, order, asking, WHOLE);
+fn ask_fixed(book: &mut Book, question: u64, k: u64, word: u64, cut: u64) {
+    let got = ask_store(book, request_asking(Asking { question, k }, WHOLE));
     same_word(book, FIXED, word, got.word);
     same(book, FIXED, cut, got.cut);
 }
 
-fn asking(question: u64, k: u64) -> Asking {
-    Asking { question, k }
-}
-
 // "A: at least 2, none; exactly 0 gives 0,0; set {2} gives 2,2"; B: "at least 2 gives 1,1".
-fn ask_a_or_b(
-    book: &mut Book,
-    record: Record,
-    clocks: &Clocks,
-    held: &Held,
-    order: &Order,
-    which: u64,
-) {
+fn ask_a_or_b(book: &mut Book, which: u64) {
     if which == 2 {
-        ask_fixed(
-            book,
-            record,
-            clocks,
-            held,
-            order,
-            asking(AT_LEAST, 2),
-            FOUND,
-            pair(1, 1),
-        );
+        ask_fixed(book, AT_LEAST, 2, FOUND, pair(1, 1));
         return;
     }
-    ask_fixed(
-        book,
-        record,
-        clocks,
-        held,
-        order,
-        asking(AT_LEAST, 2),
-        NONE,
-        0,
-    );
-    ask_fixed(
-        book,
-        record,
-        clocks,
-        held,
-        order,
-        asking(EXACTLY, 0),
-        FOUND,
-        0,
-    );
-    ask_fixed(
-        book,
-        record,
-        clocks,
-        held,
-        order,
-        asking(SET, 2),
-        FOUND,
-        pair(2, 2),
-    );
+    ask_fixed(book, AT_LEAST, 2, NONE, 0);
+    ask_fixed(book, EXACTLY, 0, FOUND, 0);
+    ask_fixed(book, SET, 2, FOUND, pair(2, 2));
 }
 
 // One of the three traces: its counts and answers as document 01 gives them, and all else against the second lister, which has
 // to find 7 cuts of A and 9 of B.
-pub(crate) fn try_fixed(
-    book: &mut Book,
-    out: &mut Output,
-    clocks: &mut Clocks,
-    held: &mut Held,
-    order: &mut Order,
-    which: u64,
-) {
-    let fresh = open(book, 2);
-    mark_store(clocks, held, order);
-    let record = offer_fixed(book, fresh, clocks, held, order, which);
-    count_fixed(book, record, clocks, held, order, which);
-    ask_a_or_b(book, record, clocks, held, order, which);
-    let total = compare_trace(book, out, record, clocks, held, order);
+pub(crate) fn try_fixed(book: &mut Book, which: u64) {
+    open(book, 2);
+    offer_fixed(book, which);
+    count_fixed(book, which);
+    ask_a_or_b(book, which);
+    let total = compare_trace(book);
     same(book, FIXED, if which == 2 { 9 } else { 7 }, total);
 }
 
-// An event that is refused, by document 01's number.
-fn refuse_event(
-    book: &mut Book,
-    record: Record,
-    clocks: &mut Clocks,
-    held: &mut Held,
-    order: &mut Order,
-    event: Row,
-    number: u64,
-) {
+// An event that is refused, by document 01's number; the store refuses it too.
+fn refuse_event(book: &mut Book, event: Row, number: u64) {
     same_word(
         book,
         FIXED,
         number,
         follow_number(book, event.tablet, event.clock),
     );
-    offer(book, record, clocks, held, order, event);
+    offer(book, event);
 }
 
 // "After A's first two, 2/2,2 is refused 6. After A's first, 1/3,0 and 1/1,0 are refused 5."
-pub(crate) fn refuse_after_a(
-    book: &mut Book,
-    clocks: &mut Clocks,
-    held: &mut Held,
-    order: &mut Order,
-) {
-    let fresh = open(book, 2);
-    mark_store(clocks, held, order);
-    let one = offer(book, fresh, clocks, held, order, event_of_a(1));
-    refuse_event(book, one, clocks, held, order, of_two(1, 3, 0, 0), 5);
-    refuse_event(book, one, clocks, held, order, of_two(1, 1, 0, 0), 5);
-    let two = offer(book, one, clocks, held, order, event_of_a(2));
-    refuse_event(book, two, clocks, held, order, of_two(2, 2, 2, 0), 6);
-}
-
-// "n=3 after 1/1,0,0 and 2/1,1,0: 3/0,1,1 is refused 7, as is 2/0,2,0; 3/1,1,1 is accepted."
-pub(crate) fn refuse_of_three(
-    book: &mut Book,
-    clocks: &mut Clocks,
-    held: &mut Held,
-    order: &mut Order,
-) {
-    let fresh = open(book, 3);
-    mark_store(clocks, held, order);
-    let one = offer(book, fresh, clocks, held, order, of_two(1, 1, 0, 0));
-    let two = offer(book, one, clocks, held, order, of_two(2, 1, 1, 0));
-    refuse_event(book, two, clocks, held, order, third(0, 1), 7);
-    refuse_event(book, two, clocks, held, order, of_two(2, 0, 2, 0), 7);
-    refuse_event(book, two, clocks, held, order, third(1, 1), 0);
+pub(crate) fn refuse_after_a(book: &mut Book) {
+    open(book, 2);
+    offer(book, event_of_a(1));
+    refuse_event(book, of_two(1, 3, 0, 0), 5);
+    refuse_event(book, of_two(1, 1, 0, 0), 5);
+    offer(book, event_of_a(2));
+    refuse_event(book, of_two(2, 2, 2, 0), 6);
 }
 
 fn third(a: u64, b: u64) -> Row {
@@ -281,29 +181,31 @@ fn third(a: u64, b: u64) -> Row {
     }
 }
 
+// "n=3 after 1/1,0,0 and 2/1,1,0: 3/0,1,1 is refused 7, as is 2/0,2,0; 3/1,1,1 is accepted."
+pub(crate) fn refuse_of_three(book: &mut Book) {
+    open(book, 3);
+    offer(book, of_two(1, 1, 0, 0));
+    offer(book, of_two(2, 1, 1, 0));
+    refuse_event(book, third(0, 1), 7);
+    refuse_event(book, of_two(2, 0, 2, 0), 7);
+    refuse_event(book, third(1, 1), 0);
+}
+
 // "Tablets 8 opens, 9 and 0 are refused 1"; and each number of tablets without events has one cut.
-pub(crate) fn try_empty(
-    book: &mut Book,
-    out: &mut Output,
-    clocks: &mut Clocks,
-    held: &mut Held,
-    order: &mut Order,
-) {
+pub(crate) fn try_empty(book: &mut Book) {
     open(book, 0);
+    open(book, 9);
     open(book, 255);
-    let mut n: u64 = 9;
+    let mut n: u64 = 8;
     while 0 < n {
-        let record = open(book, n);
-        mark_store(clocks, held, order);
-        if n < 9 {
-            let total = compare_trace(book, out, record, clocks, held, order);
-            same(book, FIXED, 1, total);
-        }
+        open(book, n);
+        let total = compare_trace(book);
+        same(book, FIXED, 1, total);
         n -= 1;
     }
 }
 
-// So many events of the tablets in turn, each knowing all before it. The clock is that of the last event, and one more.
+// So many events of the tablets in turn, each knowing all before it.
 fn add_chain(book: &mut Book, n: u64, most: u64) {
     clear(book, n);
     let mut clock: u64 = 0;
@@ -321,39 +223,15 @@ fn add_chain(book: &mut Book, n: u64, most: u64) {
     }
 }
 
-// The chain is read as a text; the record of what was read.
-fn read_chain(
-    book: &mut Book,
-    out: &mut Output,
-    clocks: &mut Clocks,
-    held: &mut Held,
-    order: &mut Order,
-    n: u64,
-) -> Record {
-    let last = events(book);
-    let end = put_text(book, out, wrapping_add_u64(last, 1));
-    let want = Told {
-        word: 0,
-        line: 0,
-        tablets: n,
-        events: last,
-    };
-    compare_reading(book, out, end, clocks, held, order, want);
-    Record {
-        tablets: low_byte(n),
-        events: low_word(last),
-    }
+// The chain as a text.
+fn read_chain(book: &mut Book) {
+    let length = put_text(book, wrapping_add_u64(events(book), 1));
+    let want = read_whole(book);
+    compare_reading(book, length, want);
 }
 
-// "Event 254 is accepted, the next refused 8", of each tablet of a full store too.
-fn offer_full(
-    book: &mut Book,
-    record: Record,
-    clocks: &mut Clocks,
-    held: &mut Held,
-    order: &mut Order,
-    n: u64,
-) {
+// "Event 254 is accepted, the next refused 8", of each tablet.
+fn offer_full(book: &mut Book, n: u64) {
     let mut tablet: u64 = 0;
     while tablet < n {
         tablet += 1;
@@ -362,49 +240,33 @@ fn offer_full(
             clock: 18446744073709551615,
             held: 0,
         };
-        refuse_event(book, record, clocks, held, order, event, 8);
+        refuse_event(book, event, 8);
     }
 }
 
 // One tablet with 254 events, every interval of it.
-pub(crate) fn try_one_full(
-    book: &mut Book,
-    out: &mut Output,
-    clocks: &mut Clocks,
-    held: &mut Held,
-    order: &mut Order,
-) {
+pub(crate) fn try_one_full(book: &mut Book) {
     add_chain(book, 1, 253);
-    let before = read_chain(book, out, clocks, held, order, 1);
-    let last = row_last();
-    let record = offer(book, before, clocks, held, order, last);
-    offer_full(book, record, clocks, held, order, 1);
-    let total = compare_trace(book, out, record, clocks, held, order);
-    same(book, FIXED, 255, total);
-}
-
-fn row_last() -> Row {
-    Row {
+    let last = Row {
         tablet: 1,
         clock: alone(0, 254),
         held: 65535,
-    }
+    };
+    refuse_event(book, last, 0);
+    offer_full(book, 1);
+    read_chain(book);
+    let total = compare_trace(book);
+    same(book, FIXED, 255, total);
 }
 
-// A full store, 8 times 254 events: some counts, and no event more.
-pub(crate) fn try_all_full(
-    book: &mut Book,
-    out: &mut Output,
-    clocks: &mut Clocks,
-    held: &mut Held,
-    order: &mut Order,
-) {
+// A full store, 8 times 254 events: read as a text, some counts, and no event more.
+pub(crate) fn try_all_full(book: &mut Book) {
     add_chain(book, 8, 2032);
-    let record = read_chain(book, out, clocks, held, order, 8);
-    let first = call_count(record, clocks, held, order, 1);
-    let last = call_count(record, clocks, held, order, 2032);
+    read_chain(book);
+    lend_sound(book);
+    let first = counted(book, 1);
+    let last = counted(book, 2032);
     same(book, FIXED, 2032, events(book));
-    same(book, FIXED, 1, first.number);
-    same(book, FIXED, 1, last.number);
-    offer_full(book, record, clocks, held, order, 8);
+    same(book, FIXED, 2, wrapping_add_u64(first, last));
+    offer_full(book, 8);
 }

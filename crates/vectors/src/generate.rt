@@ -91,10 +91,21 @@ fn wrong_tablet(book: &mut Book) -> u64 {
     wrapping_add_u64(tablets(book), above)
 }
 
-// A clock with one entry changed: its own by one, any by one, or any to some number.
+// The column of an entry that is changed: the tablet's own for kinds 0 and 1, some tablet's for 2 and 3, else any of the eight.
+fn wrong_column(book: &mut Book, own: u64, kind: u64) -> u64 {
+    if kind < 2 {
+        return own;
+    }
+    if kind < 4 {
+        return draw_column(book);
+    }
+    draw(book, 8)
+}
+
+// A clock with one entry changed: its own or another tablet's by one, or any to some number.
 fn wrong_clock(book: &mut Book, own: u64, clock: u64) -> u64 {
     let kind = draw(book, 6);
-    let column = if kind < 2 { own } else { draw(book, 8) };
+    let column = wrong_column(book, own, kind);
     let was = entry(clock, column);
     let number = match kind {
         0 | 2 => wrapping_add_u64(was, 1),

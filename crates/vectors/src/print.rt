@@ -37,7 +37,8 @@ pub(crate) fn say_difference(kind: u64, want: u64, got: u64) {
 }
 
 fn say_clock(clock: u64, n: u64) {
-    let mut j: u64 = 0;
+    say_number(entry(clock, 0));
+    let mut j: u64 = 1;
     while j < n {
         say(b",");
         say_number(entry(clock, j));

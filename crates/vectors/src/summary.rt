@@ -29,7 +29,7 @@ use std::num::wrapping_add_u64;
 fn say_tried(book: &Book) {
     say_line(b"cases read=", cell(book, CASES));
     say_line(b"traces=", cell(book, TRACES));
-    say_line(b"events=", cell(book, EVENTS));
+    say_line(b"events offered=", cell(book, EVENTS));
     say_line(b"vectors=", cell(book, VECTORS));
 }
 

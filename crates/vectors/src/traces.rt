@@ -12,10 +12,6 @@ use crate::book::tablets;
 use crate::book::vectors;
 use crate::calls::WHOLE;
 use crate::cells::Book;
-use crate::cells::Clocks;
-use crate::cells::Held;
-use crate::cells::Order;
-use crate::cells::Output;
 use crate::compare::Plan;
 use crate::compare::Stand;
 use crate::compare::compare_answer;
@@ -26,25 +22,21 @@ use crate::compare::list_refused;
 use crate::compare::list_through;
 use crate::generate::draw;
 use crate::generate::draw_cut;
+use crate::lend::lend_sound;
 use crate::notes::ORDERS;
 use crate::notes::SUMS;
 use crate::notes::TRACES;
 use crate::notes::VECTORS;
 use crate::notes::add_note;
 use crate::notes::same;
-use crate::offers::compare_cells;
-use crate::offers::mark_store;
 use crate::offers::offer;
-use crate::second::AT_LEAST;
 use crate::second::Asking;
-use crate::second::EXACTLY;
 use crate::second::SET;
 use crate::second::index_of;
 use crate::second::list_all;
 use crate::second::list_interval;
 use crate::second::ready;
 use crate::second::sum_held;
-use model::Record;
 use std::num::wrapping_add_u64;
 use std::num::wrapping_sub_u64;
 
@@ -55,7 +47,7 @@ fn draw_length(book: &mut Book) -> u64 {
         1 => 15,
         2 => 16,
         3 => 24,
-        _ => 4096,
+        _ => 512,
     }
 }
 
@@ -89,19 +81,11 @@ fn draw_asking(book: &mut Book, list: u64, total: u64) -> Asking {
     }
 }
 
-fn ask_some(
-    book: &mut Book,
-    record: Record,
-    clocks: &Clocks,
-    held: &Held,
-    order: &Order,
-    plan: Plan,
-    most: u64,
-) {
+fn ask_some(book: &mut Book, plan: Plan, most: u64) {
     let mut turns: u64 = 0;
     while turns < most {
         let asking = draw_asking(book, plan.list, plan.total);
-        compare_answer(book, record, clocks, held, order, plan, asking);
+        compare_answer(book, plan, asking);
         turns += 1;
     }
 }
@@ -117,15 +101,7 @@ fn with_length(plan: Plan, length: u64) -> Plan {
 
 // From a place drawn near the interval: the cuts behind it, or refused 10 where it is not in the interval; and refused 14
 // before that where not even one cut fits.
-fn list_from_drawn(
-    book: &mut Book,
-    out: &mut Output,
-    record: Record,
-    clocks: &Clocks,
-    held: &Held,
-    order: &Order,
-    plan: Plan,
-) {
+fn list_from_drawn(book: &mut Book, plan: Plan) {
     let cut = draw_cut(book);
     let at = index_of(book, plan.list, plan.total, cut);
     let from = Stand {
@@ -134,29 +110,21 @@ fn list_from_drawn(
         cut,
     };
     let short = with_length(plan, draw(book, 8));
-    list_refused(book, out, record, clocks, held, order, short, from, 14);
+    list_refused(book, short, from, 14);
     if at < plan.total {
-        list_once(book, out, record, clocks, held, order, plan, from);
+        list_once(book, plan, from);
     } else {
-        list_refused(book, out, record, clocks, held, order, plan, from, 10);
+        list_refused(book, plan, from, 10);
     }
 }
 
 // One interval: what the library lists, gathers, answers and counts. The count is handed on to be summed.
-fn compare_interval(
-    book: &mut Book,
-    out: &mut Output,
-    record: Record,
-    clocks: &Clocks,
-    held: &Held,
-    order: &Order,
-    plan: Plan,
-) -> u64 {
-    list_through(book, out, record, clocks, held, order, plan);
-    list_from_drawn(book, out, record, clocks, held, order, plan);
-    compare_gathering(book, out, record, clocks, held, order, plan);
-    ask_some(book, record, clocks, held, order, plan, 2);
-    compare_count(book, record, clocks, held, order, plan)
+fn compare_interval(book: &mut Book, plan: Plan) -> u64 {
+    list_through(book, plan);
+    list_from_drawn(book, plan);
+    compare_gathering(book, plan);
+    ask_some(book, plan, 2);
+    compare_count(book, plan)
 }
 
 fn plan_of(book: &mut Book, p: u64, total: u64) -> Plan {
@@ -169,21 +137,13 @@ fn plan_of(book: &mut Book, p: u64, total: u64) -> Plan {
 }
 
 // Every interval of a trace against the second lister's; the counts have to add up to the number of all cuts.
-fn compare_intervals(
-    book: &mut Book,
-    out: &mut Output,
-    record: Record,
-    clocks: &Clocks,
-    held: &Held,
-    order: &Order,
-    total: u64,
-) {
+fn compare_intervals(book: &mut Book, total: u64) {
     let behind = wrapping_add_u64(events(book), 1);
     let mut sum: u64 = 0;
     let mut p: u64 = 0;
     while p < behind {
         let plan = plan_of(book, p, total);
-        let count = compare_interval(book, out, record, clocks, held, order, plan);
+        let count = compare_interval(book, plan);
         sum = wrapping_add_u64(sum, count);
         p += 1;
     }
@@ -199,21 +159,14 @@ fn whole(total: u64) -> Plan {
     }
 }
 
-// All that is compared of a trace that stands in the store. How many cuts it has is answered, and they are left in the book.
-pub(crate) fn compare_trace(
-    book: &mut Book,
-    out: &mut Output,
-    record: Record,
-    clocks: &Clocks,
-    held: &Held,
-    order: &Order,
-) -> u64 {
+// All that is compared of a day. How many cuts it has is answered, and they are left in the book.
+pub(crate) fn compare_trace(book: &mut Book) -> u64 {
     add_note(book, TRACES, 1);
     add_note(book, VECTORS, vectors(book));
-    compare_cells(book, clocks, held, order);
+    lend_sound(book);
     let total = list_all(book);
-    compare_intervals(book, out, record, clocks, held, order, total);
-    ask_some(book, record, clocks, held, order, whole(total), 8);
+    compare_intervals(book, total);
+    ask_some(book, whole(total), 8);
     total
 }
 
@@ -231,22 +184,14 @@ fn next_ready(book: &Book) -> u64 {
 }
 
 // The same events, offered in another order.
-fn reorder(
-    book: &mut Book,
-    record: Record,
-    clocks: &mut Clocks,
-    held: &mut Held,
-    order: &mut Order,
-) -> Record {
-    let mut after = record;
+fn reorder(book: &mut Book) {
     let last = copied_events(book);
     let mut placed: u64 = 0;
     while placed < last {
         let event = copied_row(book, next_ready(book));
-        after = offer(book, after, clocks, held, order, event);
+        offer(book, event);
         placed += 1;
     }
-    after
 }
 
 // Both orders have the same cuts.
@@ -258,21 +203,12 @@ fn compare_orders(book: &mut Book, total: u64) {
     }
 }
 
-// The trace that stands in the store once more, its events in another order.
-pub(crate) fn compare_other_order(
-    book: &mut Book,
-    out: &mut Output,
-    fresh: Record,
-    clocks: &mut Clocks,
-    held: &mut Held,
-    order: &mut Order,
-    total: u64,
-) {
+// The day once more, its events in another order.
+pub(crate) fn compare_other_order(book: &mut Book, total: u64) {
     copy_day(book);
     clear(book, tablets(book));
-    mark_store(clocks, held, order);
-    let record = reorder(book, fresh, clocks, held, order);
-    let again = compare_trace(book, out, record, clocks, held, order);
+    reorder(book);
+    let again = compare_trace(book);
     same(book, ORDERS, total, again);
     compare_orders(book, total);
 }

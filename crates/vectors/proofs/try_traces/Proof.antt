@@ -1,13 +1,14 @@
+-- `vectors::try_traces` is safe and ends. Nothing has to hold from turn to turn; the measure is what is left to count.
 use borrow.Author.Needs.{needs}
 use Prim.Native.Nat.{_-_}
 use Rattle.vectors.proofs.try_traces.Statement.{statement}
 use Rattle.vectors.proofs.try_traces.Tie as tie
 
 abbrev Inv-loop : tie.InvT-loop
-Inv-loop book₀ out₀ clocks₀ held₀ order₀ turn₀ book out clocks held order turn = Unit {0}
+Inv-loop book₀ turn₀ book turn = Unit {0}
 
 abbrev μ-loop : tie.MeasureT-loop
-μ-loop book₀ out₀ clocks₀ held₀ order₀ turn₀ book out clocks held order turn = 320 - turn
+μ-loop book₀ turn₀ book turn = 200 - turn
 
 loop-holds : tie.Need-loop-holds Inv-loop μ-loop
 loop-holds c = tt

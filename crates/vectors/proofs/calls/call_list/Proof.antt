@@ -1,11 +1,12 @@
+-- `vectors::calls::call_list` is safe: what is lent lies within the slice that it is a part of.
 use borrow.Author.Needs.{needs}
 use native.Mathlib.Omega.{arith}
 use lib.ListN.{length, length-take}
 use Rattle.vectors.proofs.calls.call_list.Statement.{statement}
 use Rattle.vectors.proofs.calls.call_list.Tie as tie
 
-plain-requires : tie.Need-plain-requires
-plain-requires c κs = search needs
+nothing-requires : tie.Need-nothing-requires
+nothing-requires c κs = search needs
 
 returns : tie.Need-returns
 returns c = search needs
@@ -38,7 +39,7 @@ pub call-list-spec : {M : Type 1} → statement M
 call-list-spec =
     tie.close
     (tie.spec
-    plain-requires
+    nothing-requires
     returns
     place-of-requires
     low-word-requires

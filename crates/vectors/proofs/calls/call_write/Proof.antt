@@ -1,11 +1,12 @@
+-- `vectors::calls::call_write` is safe: what is lent lies within the slice that it is a part of.
 use borrow.Author.Needs.{needs}
 use native.Mathlib.Omega.{arith}
 use lib.ListN.{length, length-take}
 use Rattle.vectors.proofs.calls.call_write.Statement.{statement}
 use Rattle.vectors.proofs.calls.call_write.Tie as tie
 
-plain-requires : tie.Need-plain-requires
-plain-requires c κs = search needs
+nothing-requires : tie.Need-nothing-requires
+nothing-requires c κs = search needs
 
 returns : tie.Need-returns
 returns c = search needs
@@ -25,8 +26,8 @@ write-requires c κs = search needs
 verdict-word-requires : tie.Need-verdict-word-requires
 verdict-word-requires c κs = search needs
 
-plain-requires-2 : tie.Need-plain-requires-2
-plain-requires-2 c κs = search needs
+plain-requires : tie.Need-plain-requires
+plain-requires c κs = search needs
 
 same-length : tie.Need-same-length
 same-length c = search needs
@@ -38,13 +39,13 @@ pub call-write-spec : {M : Type 1} → statement M
 call-write-spec =
     tie.close
     (tie.spec
-    plain-requires
+    nothing-requires
     returns
     low-word-requires
     slice-relend-prefix-write
     slice-aggregate-write
     write-requires
     verdict-word-requires
-    plain-requires-2
+    plain-requires
     same-length
     returns-2)

@@ -1,13 +1,14 @@
+-- `vectors::cases::number_at` is safe and ends. Nothing has to hold from turn to turn; the measure is what is left to count.
 use borrow.Author.Needs.{needs}
 use Prim.Native.Nat.{_-_}
 use Rattle.vectors.proofs.cases.number_at.Statement.{statement}
 use Rattle.vectors.proofs.cases.number_at.Tie as tie
 
 abbrev Inv-loop : tie.InvT-loop
-Inv-loop out from value₀ digits₀ value digits = Unit {0}
+Inv-loop book from value₀ digits₀ value digits = Unit {0}
 
 abbrev μ-loop : tie.MeasureT-loop
-μ-loop out from value₀ digits₀ value digits = 8 - digits
+μ-loop book from value₀ digits₀ value digits = 8 - digits
 
 loop-holds : tie.Need-loop-holds Inv-loop μ-loop
 loop-holds c = tt
@@ -15,11 +16,8 @@ loop-holds c = tt
 wrapping-add-u64-requires : tie.Need-wrapping-add-u64-requires Inv-loop μ-loop
 wrapping-add-u64-requires c κs = tt
 
-byte-requires : tie.Need-byte-requires Inv-loop μ-loop
-byte-requires c κs = tt
-
-wide-requires : tie.Need-wide-requires Inv-loop μ-loop
-wide-requires c κs = tt
+letter-requires : tie.Need-letter-requires Inv-loop μ-loop
+letter-requires c κs = tt
 
 times-requires : tie.Need-times-requires Inv-loop μ-loop
 times-requires c κs = tt
@@ -56,8 +54,7 @@ number-at-spec =
     μ-loop
     loop-holds
     wrapping-add-u64-requires
-    byte-requires
-    wide-requires
+    letter-requires
     times-requires
     wrapping-sub-u64-requires
     wrapping-add-u64-requires-2

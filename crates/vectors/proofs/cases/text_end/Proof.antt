@@ -1,25 +1,26 @@
+-- `vectors::cases::text_end` is safe and ends. Nothing has to hold from turn to turn; the measure is what is left to count.
 use borrow.Author.Needs.{needs}
 use Prim.Native.Nat.{_-_}
 use Rattle.vectors.proofs.cases.text_end.Statement.{statement}
 use Rattle.vectors.proofs.cases.text_end.Tie as tie
 
 abbrev Inv-loop : tie.InvT-loop
-Inv-loop out from end i₀ i = Unit {0}
+Inv-loop book from end i₀ i = Unit {0}
 
 abbrev μ-loop : tie.MeasureT-loop
-μ-loop out from end i₀ i = end - i
+μ-loop book from end i₀ i = end - i
 
 loop-holds : tie.Need-loop-holds Inv-loop μ-loop
 loop-holds c = tt
 
-byte-requires : tie.Need-byte-requires Inv-loop μ-loop
-byte-requires c κs = tt
+letter-requires : tie.Need-letter-requires Inv-loop μ-loop
+letter-requires c κs = tt
 
 wrapping-add-u64-requires : tie.Need-wrapping-add-u64-requires Inv-loop μ-loop
 wrapping-add-u64-requires c κs = tt
 
-byte-requires-2 : tie.Need-byte-requires-2 Inv-loop μ-loop
-byte-requires-2 c κs = tt
+letter-requires-2 : tie.Need-letter-requires-2 Inv-loop μ-loop
+letter-requires-2 c κs = tt
 
 returns : tie.Need-returns Inv-loop μ-loop
 returns c = tt
@@ -43,9 +44,9 @@ text-end-spec =
     Inv-loop
     μ-loop
     loop-holds
-    byte-requires
+    letter-requires
     wrapping-add-u64-requires
-    byte-requires-2
+    letter-requires-2
     returns
     add-i
     loop-less

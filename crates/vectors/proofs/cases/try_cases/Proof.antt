@@ -1,13 +1,14 @@
+-- `vectors::cases::try_cases` is safe and ends. Nothing has to hold from turn to turn; the measure is what is left to count.
 use borrow.Author.Needs.{needs}
 use Prim.Native.Nat.{_-_}
 use Rattle.vectors.proofs.cases.try_cases.Statement.{statement}
 use Rattle.vectors.proofs.cases.try_cases.Tie as tie
 
 abbrev Inv-loop : tie.InvT-loop
-Inv-loop book₀ out clocks₀ held₀ order₀ end at₀ cases₀ book clocks held order at cases = Unit {0}
+Inv-loop book₀ end at₀ cases₀ book at cases = Unit {0}
 
 abbrev μ-loop : tie.MeasureT-loop
-μ-loop book₀ out clocks₀ held₀ order₀ end at₀ cases₀ book clocks held order at cases = 1000 - cases
+μ-loop book₀ end at₀ cases₀ book at cases = 1000 - cases
 
 read-input-requires : tie.Need-read-input-requires Inv-loop μ-loop
 read-input-requires c κs = tt

@@ -1,13 +1,14 @@
+-- `vectors::compare::compare_cuts` is safe and ends. Nothing has to hold from turn to turn; the measure is what is left to count.
 use borrow.Author.Needs.{needs}
 use Prim.Native.Nat.{_-_}
 use Rattle.vectors.proofs.compare.compare_cuts.Statement.{statement}
 use Rattle.vectors.proofs.compare.compare_cuts.Tie as tie
 
 abbrev Inv-loop : tie.InvT-loop
-Inv-loop book₀ out plan seen count i₀ book i = Unit {0}
+Inv-loop book₀ list seen count i₀ book i = Unit {0}
 
 abbrev μ-loop : tie.MeasureT-loop
-μ-loop book₀ out plan seen count i₀ book i = count - i
+μ-loop book₀ list seen count i₀ book i = count - i
 
 loop-holds : tie.Need-loop-holds Inv-loop μ-loop
 loop-holds c = tt
@@ -18,11 +19,8 @@ wrapping-add-u64-requires c κs = tt
 listed-requires : tie.Need-listed-requires Inv-loop μ-loop
 listed-requires c κs = tt
 
-mul-packed-at : tie.Need-mul-packed-at Inv-loop μ-loop
-mul-packed-at c = search needs
-
-packed-at-requires : tie.Need-packed-at-requires Inv-loop μ-loop
-packed-at-requires c κs = tt
+written-cut-requires : tie.Need-written-cut-requires Inv-loop μ-loop
+written-cut-requires c κs = tt
 
 same-requires : tie.Need-same-requires Inv-loop μ-loop
 same-requires c κs = tt
@@ -48,8 +46,7 @@ compare-cuts-spec =
     loop-holds
     wrapping-add-u64-requires
     listed-requires
-    mul-packed-at
-    packed-at-requires
+    written-cut-requires
     same-requires
     add-i
     loop-less

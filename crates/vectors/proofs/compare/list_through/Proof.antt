@@ -1,13 +1,14 @@
+-- `vectors::compare::list_through` is safe and ends. Nothing has to hold from turn to turn; the measure is what is left to count.
 use borrow.Author.Needs.{needs}
 use Prim.Native.Nat.{_-_}
 use Rattle.vectors.proofs.compare.list_through.Statement.{statement}
 use Rattle.vectors.proofs.compare.list_through.Tie as tie
 
 abbrev Inv-loop : tie.InvT-loop
-Inv-loop book₀ out₀ «record» clocks held order plan stand₀ calls₀ book out stand calls = Unit {0}
+Inv-loop book₀ plan stand₀ calls₀ book stand calls = Unit {0}
 
 abbrev μ-loop : tie.MeasureT-loop
-μ-loop book₀ out₀ «record» clocks held order plan stand₀ calls₀ book out stand calls = 65536 - calls
+μ-loop book₀ plan stand₀ calls₀ book stand calls = 65536 - calls
 
 nowhere-requires : tie.Need-nowhere-requires Inv-loop μ-loop
 nowhere-requires c κs = tt

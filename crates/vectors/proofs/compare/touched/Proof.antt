@@ -1,19 +1,23 @@
+-- `vectors::compare::touched` is safe and ends. Nothing has to hold from turn to turn; the measure is what is left to count.
 use borrow.Author.Needs.{needs}
 use Prim.Native.Nat.{_-_}
 use Rattle.vectors.proofs.compare.touched.Statement.{statement}
 use Rattle.vectors.proofs.compare.touched.Tie as tie
 
 abbrev Inv-loop : tie.InvT-loop
-Inv-loop out from to count₀ i₀ count i = Unit {0}
+Inv-loop book from to count₀ i₀ count i = Unit {0}
 
 abbrev μ-loop : tie.MeasureT-loop
-μ-loop out from to count₀ i₀ count i = to - i
+μ-loop book from to count₀ i₀ count i = to - i
 
 loop-holds : tie.Need-loop-holds Inv-loop μ-loop
 loop-holds c = tt
 
-byte-requires : tie.Need-byte-requires Inv-loop μ-loop
-byte-requires c κs = tt
+written-requires : tie.Need-written-requires Inv-loop μ-loop
+written-requires c κs = tt
+
+wide-requires : tie.Need-wide-requires Inv-loop μ-loop
+wide-requires c κs = tt
 
 wrapping-add-u64-requires : tie.Need-wrapping-add-u64-requires Inv-loop μ-loop
 wrapping-add-u64-requires c κs = tt
@@ -37,7 +41,8 @@ touched-spec =
     Inv-loop
     μ-loop
     loop-holds
-    byte-requires
+    written-requires
+    wide-requires
     wrapping-add-u64-requires
     add-i
     loop-less

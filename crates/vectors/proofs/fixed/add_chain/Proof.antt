@@ -1,3 +1,4 @@
+-- `vectors::fixed::add_chain` is safe and ends. Nothing has to hold from turn to turn; the measure is what is left to count.
 use borrow.Author.Needs.{needs}
 use Prim.Native.Nat.{_-_}
 use Rattle.vectors.proofs.fixed.add_chain.Statement.{statement}

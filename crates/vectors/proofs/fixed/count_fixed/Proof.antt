@@ -1,19 +1,23 @@
+-- `vectors::fixed::count_fixed` is safe and ends. Nothing has to hold from turn to turn; the measure is what is left to count.
 use borrow.Author.Needs.{needs}
 use Prim.Native.Nat.{_-_}
 use Rattle.vectors.proofs.fixed.count_fixed.Statement.{statement}
 use Rattle.vectors.proofs.fixed.count_fixed.Tie as tie
 
 abbrev Inv-loop : tie.InvT-loop
-Inv-loop book₀ «record» clocks held order which p₀ book p = Unit {0}
+Inv-loop book₀ which p₀ book p = Unit {0}
 
 abbrev μ-loop : tie.MeasureT-loop
-μ-loop book₀ «record» clocks held order which p₀ book p = 5 - p
+μ-loop book₀ which p₀ book p = 5 - p
+
+lend-sound-requires : tie.Need-lend-sound-requires Inv-loop μ-loop
+lend-sound-requires c κs = tt
 
 loop-holds : tie.Need-loop-holds Inv-loop μ-loop
 loop-holds c = tt
 
-call-count-requires : tie.Need-call-count-requires Inv-loop μ-loop
-call-count-requires c κs = tt
+counted-requires : tie.Need-counted-requires Inv-loop μ-loop
+counted-requires c κs = tt
 
 count-of-requires : tie.Need-count-of-requires Inv-loop μ-loop
 count-of-requires c κs = tt
@@ -39,8 +43,9 @@ count-fixed-spec =
     (tie.spec
     Inv-loop
     μ-loop
+    lend-sound-requires
     loop-holds
-    call-count-requires
+    counted-requires
     count-of-requires
     same-requires
     add-p

@@ -1,13 +1,14 @@
+-- `vectors::fixed::offer_fixed` is safe and ends. Nothing has to hold from turn to turn; the measure is what is left to count.
 use borrow.Author.Needs.{needs}
 use Prim.Native.Nat.{_-_}
 use Rattle.vectors.proofs.fixed.offer_fixed.Statement.{statement}
 use Rattle.vectors.proofs.fixed.offer_fixed.Tie as tie
 
 abbrev Inv-loop : tie.InvT-loop
-Inv-loop book₀ clocks₀ held₀ order₀ which after₀ p₀ book clocks held order after p = Unit {0}
+Inv-loop book₀ which p₀ book p = Unit {0}
 
 abbrev μ-loop : tie.MeasureT-loop
-μ-loop book₀ clocks₀ held₀ order₀ which after₀ p₀ book clocks held order after p = 4 - p
+μ-loop book₀ which p₀ book p = 4 - p
 
 loop-holds : tie.Need-loop-holds Inv-loop μ-loop
 loop-holds c = tt

@@ -1,13 +1,14 @@
+-- `vectors::fixed::offer_full` is safe and ends. Nothing has to hold from turn to turn; the measure is what is left to count.
 use borrow.Author.Needs.{needs}
 use Prim.Native.Nat.{_-_}
 use Rattle.vectors.proofs.fixed.offer_full.Statement.{statement}
 use Rattle.vectors.proofs.fixed.offer_full.Tie as tie
 
 abbrev Inv-loop : tie.InvT-loop
-Inv-loop book₀ «record» clocks₀ held₀ order₀ n tablet₀ book clocks held order tablet = Unit {0}
+Inv-loop book₀ n tablet₀ book tablet = Unit {0}
 
 abbrev μ-loop : tie.MeasureT-loop
-μ-loop book₀ «record» clocks₀ held₀ order₀ n tablet₀ book clocks held order tablet = n - tablet
+μ-loop book₀ n tablet₀ book tablet = n - tablet
 
 loop-holds : tie.Need-loop-holds Inv-loop μ-loop
 loop-holds c = tt

@@ -1,12 +1,13 @@
+-- `vectors::fixed::try_empty` is safe and ends. Nothing has to hold from turn to turn; the measure is what is left to count.
 use borrow.Author.Needs.{needs}
 use Rattle.vectors.proofs.fixed.try_empty.Statement.{statement}
 use Rattle.vectors.proofs.fixed.try_empty.Tie as tie
 
 abbrev Inv-loop : tie.InvT-loop
-Inv-loop book₀ out₀ clocks₀ held₀ order₀ n₀ book out clocks held order n = Unit {0}
+Inv-loop book₀ n₀ book n = Unit {0}
 
 abbrev μ-loop : tie.MeasureT-loop
-μ-loop book₀ out₀ clocks₀ held₀ order₀ n₀ book out clocks held order n = n
+μ-loop book₀ n₀ book n = n
 
 open-requires : tie.Need-open-requires Inv-loop μ-loop
 open-requires c κs = tt
@@ -14,14 +15,14 @@ open-requires c κs = tt
 open-requires-2 : tie.Need-open-requires-2 Inv-loop μ-loop
 open-requires-2 c κs = tt
 
-loop-holds : tie.Need-loop-holds Inv-loop μ-loop
-loop-holds c = tt
-
 open-requires-3 : tie.Need-open-requires-3 Inv-loop μ-loop
 open-requires-3 c κs = tt
 
-mark-store-requires : tie.Need-mark-store-requires Inv-loop μ-loop
-mark-store-requires c κs = tt
+loop-holds : tie.Need-loop-holds Inv-loop μ-loop
+loop-holds c = tt
+
+open-requires-4 : tie.Need-open-requires-4 Inv-loop μ-loop
+open-requires-4 c κs = tt
 
 compare-trace-requires : tie.Need-compare-trace-requires Inv-loop μ-loop
 compare-trace-requires c κs = tt
@@ -49,9 +50,9 @@ try-empty-spec =
     μ-loop
     open-requires
     open-requires-2
-    loop-holds
     open-requires-3
-    mark-store-requires
+    loop-holds
+    open-requires-4
     compare-trace-requires
     same-requires
     sub-n

@@ -1,13 +1,14 @@
+-- `vectors::offers::offer_drawn` is safe and ends. Nothing has to hold from turn to turn; the measure is what is left to count.
 use borrow.Author.Needs.{needs}
 use Prim.Native.Nat.{_-_}
 use Rattle.vectors.proofs.offers.offer_drawn.Statement.{statement}
 use Rattle.vectors.proofs.offers.offer_drawn.Tie as tie
 
 abbrev Inv-loop : tie.InvT-loop
-Inv-loop book₀ clocks₀ held₀ order₀ most talk after₀ turns₀ book clocks held order after turns = Unit {0}
+Inv-loop book₀ most talk turns₀ book turns = Unit {0}
 
 abbrev μ-loop : tie.MeasureT-loop
-μ-loop book₀ clocks₀ held₀ order₀ most talk after₀ turns₀ book clocks held order after turns = most - turns
+μ-loop book₀ most talk turns₀ book turns = most - turns
 
 loop-holds : tie.Need-loop-holds Inv-loop μ-loop
 loop-holds c = tt

@@ -1,3 +1,4 @@
+-- `vectors::print::say_clock` is safe and ends. Nothing has to hold from turn to turn; the measure is what is left to count.
 use borrow.Author.Needs.{needs}
 use Prim.Native.Nat.{_-_}
 use Rattle.vectors.proofs.print.say_clock.Statement.{statement}
@@ -9,6 +10,12 @@ Inv-loop clock n j₀ t4 j = Unit {0}
 abbrev μ-loop : tie.MeasureT-loop
 μ-loop clock n j₀ t4 j = n - j
 
+entry-requires : tie.Need-entry-requires Inv-loop μ-loop
+entry-requires c κs = tt
+
+say-number-requires : tie.Need-say-number-requires Inv-loop μ-loop
+say-number-requires c κs = tt
+
 loop-holds : tie.Need-loop-holds Inv-loop μ-loop
 loop-holds c = tt
 
@@ -18,11 +25,11 @@ slice-aggregate-say c = search needs
 say-requires : tie.Need-say-requires Inv-loop μ-loop
 say-requires c κs = tt
 
-entry-requires : tie.Need-entry-requires Inv-loop μ-loop
-entry-requires c κs = tt
+entry-requires-2 : tie.Need-entry-requires-2 Inv-loop μ-loop
+entry-requires-2 c κs = tt
 
-say-number-requires : tie.Need-say-number-requires Inv-loop μ-loop
-say-number-requires c κs = tt
+say-number-requires-2 : tie.Need-say-number-requires-2 Inv-loop μ-loop
+say-number-requires-2 c κs = tt
 
 add-j : tie.Need-add-j Inv-loop μ-loop
 add-j c = search needs
@@ -42,11 +49,13 @@ say-clock-spec =
     (tie.spec
     Inv-loop
     μ-loop
+    entry-requires
+    say-number-requires
     loop-holds
     slice-aggregate-say
     say-requires
-    entry-requires
-    say-number-requires
+    entry-requires-2
+    say-number-requires-2
     add-j
     loop-less
     loop-again

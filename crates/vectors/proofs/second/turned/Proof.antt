@@ -1,3 +1,4 @@
+-- `vectors::second::turned` is safe and ends. Nothing has to hold from turn to turn; the measure is what is left to count.
 use borrow.Author.Needs.{needs}
 use Rattle.vectors.proofs.second.turned.Statement.{statement}
 use Rattle.vectors.proofs.second.turned.Tie as tie

@@ -1,3 +1,4 @@
+-- `vectors::summary::say_met` is safe and ends. Nothing has to hold from turn to turn; the measure is what is left to count.
 use borrow.Author.Needs.{needs}
 use Prim.Native.Nat.{_-_}
 use Rattle.vectors.proofs.summary.say_met.Statement.{statement}

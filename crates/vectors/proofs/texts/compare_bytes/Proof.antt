@@ -1,3 +1,4 @@
+-- `vectors::texts::compare_bytes` is safe and ends. Nothing has to hold from turn to turn; the measure is what is left to count.
 use borrow.Author.Needs.{needs}
 use lib.ListN.{length}
 use Prim.Native.Nat.{_-_}
@@ -5,10 +6,10 @@ use Rattle.vectors.proofs.texts.compare_bytes.Statement.{statement}
 use Rattle.vectors.proofs.texts.compare_bytes.Tie as tie
 
 abbrev Inv-loop : tie.InvT-loop
-Inv-loop book₀ out from length i₀ book i = Unit {0}
+Inv-loop book₀ at length i₀ book i = Unit {0}
 
 abbrev μ-loop : tie.MeasureT-loop
-μ-loop book₀ out from length i₀ book i = length - i
+μ-loop book₀ at length i₀ book i = length - i
 
 loop-holds : tie.Need-loop-holds Inv-loop μ-loop
 loop-holds c = tt
@@ -16,17 +17,11 @@ loop-holds c = tt
 wrapping-add-u64-requires : tie.Need-wrapping-add-u64-requires Inv-loop μ-loop
 wrapping-add-u64-requires c κs = tt
 
-byte-requires : tie.Need-byte-requires Inv-loop μ-loop
-byte-requires c κs = tt
+letter-requires : tie.Need-letter-requires Inv-loop μ-loop
+letter-requires c κs = tt
 
-wide-requires : tie.Need-wide-requires Inv-loop μ-loop
-wide-requires c κs = tt
-
-byte-requires-2 : tie.Need-byte-requires-2 Inv-loop μ-loop
-byte-requires-2 c κs = tt
-
-wide-requires-2 : tie.Need-wide-requires-2 Inv-loop μ-loop
-wide-requires-2 c κs = tt
+written-requires : tie.Need-written-requires Inv-loop μ-loop
+written-requires c κs = tt
 
 same-requires : tie.Need-same-requires Inv-loop μ-loop
 same-requires c κs = tt
@@ -51,10 +46,8 @@ compare-bytes-spec =
     μ-loop
     loop-holds
     wrapping-add-u64-requires
-    byte-requires
-    wide-requires
-    byte-requires-2
-    wide-requires-2
+    letter-requires
+    written-requires
     same-requires
     add-i
     loop-less

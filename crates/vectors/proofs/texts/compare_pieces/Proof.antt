@@ -1,13 +1,14 @@
+-- `vectors::texts::compare_pieces` is safe and ends. Nothing has to hold from turn to turn; the measure is what is left to count.
 use borrow.Author.Needs.{needs}
 use Prim.Native.Nat.{_-_}
 use Rattle.vectors.proofs.texts.compare_pieces.Statement.{statement}
 use Rattle.vectors.proofs.texts.compare_pieces.Tie as tie
 
 abbrev Inv-loop : tie.InvT-loop
-Inv-loop book₀ out₀ «record» clocks held order behind at₀ p₀ book out at p = Unit {0}
+Inv-loop book₀ behind at₀ p₀ book at p = Unit {0}
 
 abbrev μ-loop : tie.MeasureT-loop
-μ-loop book₀ out₀ «record» clocks held order behind at₀ p₀ book out at p = behind - p
+μ-loop book₀ behind at₀ p₀ book at p = behind - p
 
 events-requires : tie.Need-events-requires Inv-loop μ-loop
 events-requires c κs = tt
@@ -23,6 +24,12 @@ put-piece-requires c κs = tt
 
 wrapping-sub-u64-requires : tie.Need-wrapping-sub-u64-requires Inv-loop μ-loop
 wrapping-sub-u64-requires c κs = tt
+
+wrapping-sub-u64-requires-2 : tie.Need-wrapping-sub-u64-requires-2 Inv-loop μ-loop
+wrapping-sub-u64-requires-2 c κs = tt
+
+refuse-piece-requires : tie.Need-refuse-piece-requires Inv-loop μ-loop
+refuse-piece-requires c κs = tt
 
 compare-piece-requires : tie.Need-compare-piece-requires Inv-loop μ-loop
 compare-piece-requires c κs = tt
@@ -50,6 +57,8 @@ compare-pieces-spec =
     loop-holds
     put-piece-requires
     wrapping-sub-u64-requires
+    wrapping-sub-u64-requires-2
+    refuse-piece-requires
     compare-piece-requires
     add-p
     loop-less

@@ -1,19 +1,20 @@
+-- `vectors::texts::line_of` is safe and ends. Nothing has to hold from turn to turn; the measure is what is left to count.
 use borrow.Author.Needs.{needs}
 use Prim.Native.Nat.{_-_}
 use Rattle.vectors.proofs.texts.line_of.Statement.{statement}
 use Rattle.vectors.proofs.texts.line_of.Tie as tie
 
 abbrev Inv-loop : tie.InvT-loop
-Inv-loop out at line₀ i₀ line i = Unit {0}
+Inv-loop book at line₀ i₀ line i = Unit {0}
 
 abbrev μ-loop : tie.MeasureT-loop
-μ-loop out at line₀ i₀ line i = at - i
+μ-loop book at line₀ i₀ line i = at - i
 
 loop-holds : tie.Need-loop-holds Inv-loop μ-loop
 loop-holds c = tt
 
-byte-requires : tie.Need-byte-requires Inv-loop μ-loop
-byte-requires c κs = tt
+letter-requires : tie.Need-letter-requires Inv-loop μ-loop
+letter-requires c κs = tt
 
 wrapping-add-u64-requires : tie.Need-wrapping-add-u64-requires Inv-loop μ-loop
 wrapping-add-u64-requires c κs = tt
@@ -37,7 +38,7 @@ line-of-spec =
     Inv-loop
     μ-loop
     loop-holds
-    byte-requires
+    letter-requires
     wrapping-add-u64-requires
     add-i
     loop-less

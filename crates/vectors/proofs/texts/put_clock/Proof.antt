@@ -1,13 +1,17 @@
+-- `vectors::texts::put_clock` is safe and ends. Nothing has to hold from turn to turn; the measure is what is left to count.
 use borrow.Author.Needs.{needs}
 use Prim.Native.Nat.{_-_}
 use Rattle.vectors.proofs.texts.put_clock.Statement.{statement}
 use Rattle.vectors.proofs.texts.put_clock.Tie as tie
 
 abbrev Inv-loop : tie.InvT-loop
-Inv-loop out₀ at clock n end₀ j₀ t8 out end j = Unit {0}
+Inv-loop book₀ at clock n end₀ j₀ t8 book end j = Unit {0}
 
 abbrev μ-loop : tie.MeasureT-loop
-μ-loop out₀ at clock n end₀ j₀ t8 out end j = n - j
+μ-loop book₀ at clock n end₀ j₀ t8 book end j = n - j
+
+tablets-requires : tie.Need-tablets-requires Inv-loop μ-loop
+tablets-requires c κs = tt
 
 entry-requires : tie.Need-entry-requires Inv-loop μ-loop
 entry-requires c κs = tt
@@ -48,6 +52,7 @@ put-clock-spec =
     (tie.spec
     Inv-loop
     μ-loop
+    tablets-requires
     entry-requires
     put-number-requires
     loop-holds

@@ -1,3 +1,4 @@
+-- `vectors::texts::put_part` is safe and ends. Nothing has to hold from turn to turn; the measure is what is left to count.
 use borrow.Author.Needs.{needs}
 use lib.ListN.{length}
 use Prim.Native.Nat.{_-_}
@@ -5,10 +6,10 @@ use Rattle.vectors.proofs.texts.put_part.Statement.{statement}
 use Rattle.vectors.proofs.texts.put_part.Tie as tie
 
 abbrev Inv-loop : tie.InvT-loop
-Inv-loop out₀ at part i₀ out i = Unit {0}
+Inv-loop book₀ at part i₀ book i = Unit {0}
 
 abbrev μ-loop : tie.MeasureT-loop
-μ-loop out₀ at part i₀ out i = length part - i
+μ-loop book₀ at part i₀ book i = length part - i
 
 loop-holds : tie.Need-loop-holds Inv-loop μ-loop
 loop-holds c = tt
@@ -16,11 +17,14 @@ loop-holds c = tt
 wrapping-add-u64-requires : tie.Need-wrapping-add-u64-requires Inv-loop μ-loop
 wrapping-add-u64-requires c κs = tt
 
-shared-slice-read-put-output : tie.Need-shared-slice-read-put-output Inv-loop μ-loop
-shared-slice-read-put-output c = search needs
+shared-slice-read-wide : tie.Need-shared-slice-read-wide Inv-loop μ-loop
+shared-slice-read-wide c = search needs
 
-put-output-requires : tie.Need-put-output-requires Inv-loop μ-loop
-put-output-requires c κs = tt
+wide-requires : tie.Need-wide-requires Inv-loop μ-loop
+wide-requires c κs = tt
+
+put-letter-requires : tie.Need-put-letter-requires Inv-loop μ-loop
+put-letter-requires c κs = tt
 
 add-i : tie.Need-add-i Inv-loop μ-loop
 add-i c = search needs
@@ -45,8 +49,9 @@ put-part-spec =
     μ-loop
     loop-holds
     wrapping-add-u64-requires
-    shared-slice-read-put-output
-    put-output-requires
+    shared-slice-read-wide
+    wide-requires
+    put-letter-requires
     add-i
     loop-less
     loop-again

@@ -1,13 +1,14 @@
+-- `vectors::texts::put_text` is safe and ends. Nothing has to hold from turn to turn; the measure is what is left to count.
 use borrow.Author.Needs.{needs}
 use Prim.Native.Nat.{_-_}
 use Rattle.vectors.proofs.texts.put_text.Statement.{statement}
 use Rattle.vectors.proofs.texts.put_text.Tie as tie
 
 abbrev Inv-loop : tie.InvT-loop
-Inv-loop book out₀ last end₀ p₀ out end p = Unit {0}
+Inv-loop book₀ last end₀ p₀ book end p = Unit {0}
 
 abbrev μ-loop : tie.MeasureT-loop
-μ-loop book out₀ last end₀ p₀ out end p = last - p
+μ-loop book₀ last end₀ p₀ book end p = last - p
 
 put-piece-requires : tie.Need-put-piece-requires Inv-loop μ-loop
 put-piece-requires c κs = tt

@@ -1,3 +1,4 @@
+-- `vectors::texts::sayable` is safe and ends. Nothing has to hold from turn to turn; the measure is what is left to count.
 use borrow.Author.Needs.{needs}
 use Prim.Native.Nat.{_-_}
 use Rattle.vectors.proofs.texts.sayable.Statement.{statement}

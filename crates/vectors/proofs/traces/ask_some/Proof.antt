@@ -1,13 +1,14 @@
+-- `vectors::traces::ask_some` is safe and ends. Nothing has to hold from turn to turn; the measure is what is left to count.
 use borrow.Author.Needs.{needs}
 use Prim.Native.Nat.{_-_}
 use Rattle.vectors.proofs.traces.ask_some.Statement.{statement}
 use Rattle.vectors.proofs.traces.ask_some.Tie as tie
 
 abbrev Inv-loop : tie.InvT-loop
-Inv-loop book₀ «record» clocks held order plan most turns₀ book turns = Unit {0}
+Inv-loop book₀ plan most turns₀ book turns = Unit {0}
 
 abbrev μ-loop : tie.MeasureT-loop
-μ-loop book₀ «record» clocks held order plan most turns₀ book turns = most - turns
+μ-loop book₀ plan most turns₀ book turns = most - turns
 
 loop-holds : tie.Need-loop-holds Inv-loop μ-loop
 loop-holds c = tt

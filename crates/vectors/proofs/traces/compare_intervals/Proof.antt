@@ -1,13 +1,14 @@
+-- `vectors::traces::compare_intervals` is safe and ends. Nothing has to hold from turn to turn; the measure is what is left to count.
 use borrow.Author.Needs.{needs}
 use Prim.Native.Nat.{_-_}
 use Rattle.vectors.proofs.traces.compare_intervals.Statement.{statement}
 use Rattle.vectors.proofs.traces.compare_intervals.Tie as tie
 
 abbrev Inv-loop : tie.InvT-loop
-Inv-loop book₀ out₀ «record» clocks held order total behind sum₀ p₀ book out sum p = Unit {0}
+Inv-loop book₀ total behind sum₀ p₀ book sum p = Unit {0}
 
 abbrev μ-loop : tie.MeasureT-loop
-μ-loop book₀ out₀ «record» clocks held order total behind sum₀ p₀ book out sum p = behind - p
+μ-loop book₀ total behind sum₀ p₀ book sum p = behind - p
 
 events-requires : tie.Need-events-requires Inv-loop μ-loop
 events-requires c κs = tt

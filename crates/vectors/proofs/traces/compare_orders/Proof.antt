@@ -1,3 +1,4 @@
+-- `vectors::traces::compare_orders` is safe and ends. Nothing has to hold from turn to turn; the measure is what is left to count.
 use borrow.Author.Needs.{needs}
 use Prim.Native.Nat.{_-_}
 use Rattle.vectors.proofs.traces.compare_orders.Statement.{statement}

@@ -1,3 +1,4 @@
+-- `vectors::traces::next_ready` is safe and ends. Nothing has to hold from turn to turn; the measure is what is left to count.
 use borrow.Author.Needs.{needs}
 use Rattle.vectors.proofs.traces.next_ready.Statement.{statement}
 use Rattle.vectors.proofs.traces.next_ready.Tie as tie

@@ -1,13 +1,14 @@
+-- `vectors::traces::reorder` is safe and ends. Nothing has to hold from turn to turn; the measure is what is left to count.
 use borrow.Author.Needs.{needs}
 use Prim.Native.Nat.{_-_}
 use Rattle.vectors.proofs.traces.reorder.Statement.{statement}
 use Rattle.vectors.proofs.traces.reorder.Tie as tie
 
 abbrev Inv-loop : tie.InvT-loop
-Inv-loop book₀ clocks₀ held₀ order₀ after₀ last placed₀ book clocks held order after placed = Unit {0}
+Inv-loop book₀ last placed₀ book placed = Unit {0}
 
 abbrev μ-loop : tie.MeasureT-loop
-μ-loop book₀ clocks₀ held₀ order₀ after₀ last placed₀ book clocks held order after placed = last - placed
+μ-loop book₀ last placed₀ book placed = last - placed
 
 copied-events-requires : tie.Need-copied-events-requires Inv-loop μ-loop
 copied-events-requires c κs = tt

@@ -1,7 +1,8 @@
+-- `vectors::lend::replay` is safe and ends. Nothing has to hold from turn to turn; the measure is what is left to count.
 use borrow.Author.Needs.{needs}
 use Prim.Native.Nat.{_-_}
-use Rattle.vectors.proofs.damaged.replay.Statement.{statement}
-use Rattle.vectors.proofs.damaged.replay.Tie as tie
+use Rattle.vectors.proofs.lend.replay.Statement.{statement}
+use Rattle.vectors.proofs.lend.replay.Tie as tie
 
 abbrev Inv-loop : tie.InvT-loop
 Inv-loop book₀ clocks order last p₀ book p = Unit {0}

@@ -1,13 +1,14 @@
+-- `vectors::lend::wrong_cells` is safe and ends. Nothing has to hold from turn to turn; the measure is what is left to count.
 use borrow.Author.Needs.{needs}
 use Prim.Native.Nat.{_-_}
-use Rattle.vectors.proofs.offers.compare_cells.Statement.{statement}
-use Rattle.vectors.proofs.offers.compare_cells.Tie as tie
+use Rattle.vectors.proofs.lend.wrong_cells.Statement.{statement}
+use Rattle.vectors.proofs.lend.wrong_cells.Tie as tie
 
 abbrev Inv-loop : tie.InvT-loop
-Inv-loop book₀ clocks held order slot₀ book slot = Unit {0}
+Inv-loop book clocks held order wrong₀ slot₀ wrong slot = Unit {0}
 
 abbrev μ-loop : tie.MeasureT-loop
-μ-loop book₀ clocks held order slot₀ book slot = 2036 - slot
+μ-loop book clocks held order wrong₀ slot₀ wrong slot = 2036 - slot
 
 loop-holds : tie.Need-loop-holds Inv-loop μ-loop
 loop-holds c = tt
@@ -24,8 +25,11 @@ word-requires c κs = tt
 wide-word-requires : tie.Need-wide-word-requires Inv-loop μ-loop
 wide-word-requires c κs = tt
 
-compare-slot-requires : tie.Need-compare-slot-requires Inv-loop μ-loop
-compare-slot-requires c κs = tt
+wrong-slot-requires : tie.Need-wrong-slot-requires Inv-loop μ-loop
+wrong-slot-requires c κs = tt
+
+wrapping-add-u64-requires : tie.Need-wrapping-add-u64-requires Inv-loop μ-loop
+wrapping-add-u64-requires c κs = tt
 
 byte-requires : tie.Need-byte-requires Inv-loop μ-loop
 byte-requires c κs = tt
@@ -33,8 +37,11 @@ byte-requires c κs = tt
 wide-requires : tie.Need-wide-requires Inv-loop μ-loop
 wide-requires c κs = tt
 
-compare-place-requires : tie.Need-compare-place-requires Inv-loop μ-loop
-compare-place-requires c κs = tt
+wrong-order-requires : tie.Need-wrong-order-requires Inv-loop μ-loop
+wrong-order-requires c κs = tt
+
+wrapping-add-u64-requires-2 : tie.Need-wrapping-add-u64-requires-2 Inv-loop μ-loop
+wrapping-add-u64-requires-2 c κs = tt
 
 add-slot : tie.Need-add-slot Inv-loop μ-loop
 add-slot c = search needs
@@ -45,17 +52,11 @@ loop-less c = search needs
 loop-again : tie.Need-loop-again Inv-loop μ-loop
 loop-again c = tt
 
-events-requires : tie.Need-events-requires Inv-loop μ-loop
-events-requires c κs = tt
-
-add-note-requires : tie.Need-add-note-requires Inv-loop μ-loop
-add-note-requires c κs = tt
-
 returns : tie.Need-returns Inv-loop μ-loop
 returns c = tt
 
-pub compare-cells-spec : {M : Type 1} → statement M
-compare-cells-spec =
+pub wrong-cells-spec : {M : Type 1} → statement M
+wrong-cells-spec =
     tie.close
     (tie.spec
     Inv-loop
@@ -65,13 +66,13 @@ compare-cells-spec =
     packed-at-requires
     word-requires
     wide-word-requires
-    compare-slot-requires
+    wrong-slot-requires
+    wrapping-add-u64-requires
     byte-requires
     wide-requires
-    compare-place-requires
+    wrong-order-requires
+    wrapping-add-u64-requires-2
     add-slot
     loop-less
     loop-again
-    events-requires
-    add-note-requires
     returns)
