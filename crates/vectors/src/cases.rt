@@ -8,6 +8,7 @@ use crate::cells::put;
 use crate::cells::times;
 use crate::cells::wide;
 use crate::lend::read_text;
+use crate::notes::CASES;
 use crate::notes::FIXED;
 use crate::notes::same;
 use crate::notes::same_word;
@@ -112,8 +113,8 @@ fn try_case(book: &mut Book, want: Told, from: u64, to: u64) {
     same(book, FIXED, want.events, got.events);
 }
 
-// Each text of the input in turn, up to the line `>` that ends it; how many there were.
-pub(crate) fn try_cases(book: &mut Book) -> u64 {
+// Each text of the input in turn, up to the line `>` that ends it; how many were begun is noted.
+pub(crate) fn try_cases(book: &mut Book) {
     let end = read_input(book);
     let mut at: u64 = 0;
     let mut cases: u64 = 0;
@@ -121,13 +122,13 @@ pub(crate) fn try_cases(book: &mut Book) -> u64 {
         let header = header_at(book, wrapping_add_u64(at, 1));
         let from = header.next;
         if end <= from {
-            return cases;
+            return;
         }
         let to = text_end(book, from, end);
         let want = header.want;
+        put(book, CASES, wrapping_add_u64(cases, 1));
         try_case(book, want, from, to);
         at = wrapping_add_u64(to, 1);
         cases += 1;
     }
-    cases
 }

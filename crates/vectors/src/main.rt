@@ -20,7 +20,6 @@ mod traces;
 use book::events;
 use cases::try_cases;
 use cells::Book;
-use cells::cell;
 use cells::put;
 use damaged::change_byte;
 use damaged::refuse_questions;
@@ -31,12 +30,9 @@ use fixed::try_all_full;
 use fixed::try_empty;
 use fixed::try_fixed;
 use fixed::try_one_full;
-use notes::CASES;
-use notes::DIFFERENCES;
 use notes::SEED;
 use offers::offer_drawn;
 use offers::open;
-use print::say_trace;
 use summary::say_summary;
 use texts::compare_text;
 use traces::compare_other_order;
@@ -67,11 +63,7 @@ fn try_trace(book: &mut Book, turn: u64) {
 fn try_traces(book: &mut Book) {
     let mut turn: u64 = 0;
     while turn < DRAWN {
-        let before = cell(book, DIFFERENCES);
         try_trace(book, turn);
-        if cell(book, DIFFERENCES) != before {
-            say_trace(book);
-        }
         turn += 1;
     }
 }
@@ -95,8 +87,7 @@ fn try_edges(book: &mut Book) {
 fn main() {
     let mut book = [0u64; 184320];
     put(&mut book, SEED, 20260);
-    let cases = try_cases(&mut book);
-    put(&mut book, CASES, cases);
+    try_cases(&mut book);
     try_document(&mut book);
     try_edges(&mut book);
     try_traces(&mut book);

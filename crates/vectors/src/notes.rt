@@ -1,9 +1,11 @@
 // What was compared: a counter for each kind of comparison and for each refusal number, so that a run that compares nothing
-// shows. A difference is printed at once; who tries a trace prints the trace behind it.
+// shows. A difference is printed at once, with its trace.
 use crate::cells::Book;
 use crate::cells::cell;
 use crate::cells::put;
 use crate::print::say_difference;
+use crate::print::say_line;
+use crate::print::say_trace;
 use std::num::wrapping_add_u64;
 
 // The generator's state, and what was met.
@@ -61,6 +63,15 @@ pub(crate) fn same(book: &mut Book, kind: u64, want: u64, got: u64) {
     if want != got {
         add_note(book, DIFFERENCES, 1);
         say_difference(kind, want, got);
+        say_where(book);
+    }
+}
+
+// The trace that was tried, and how many texts of the input had been begun: behind the first hundred differences.
+fn say_where(book: &Book) {
+    if cell(book, DIFFERENCES) < 101 {
+        say_line(b"behind cases=", cell(book, CASES));
+        say_trace(book);
     }
 }
 

@@ -13,17 +13,8 @@ abbrev μ-loop : tie.MeasureT-loop
 loop-holds : tie.Need-loop-holds Inv-loop μ-loop
 loop-holds c = tt
 
-cell-requires : tie.Need-cell-requires Inv-loop μ-loop
-cell-requires c κs = tt
-
 try-trace-requires : tie.Need-try-trace-requires Inv-loop μ-loop
 try-trace-requires c κs = tt
-
-cell-requires-2 : tie.Need-cell-requires-2 Inv-loop μ-loop
-cell-requires-2 c κs = tt
-
-say-trace-requires : tie.Need-say-trace-requires Inv-loop μ-loop
-say-trace-requires c κs = tt
 
 add-turn : tie.Need-add-turn Inv-loop μ-loop
 add-turn c = search needs
@@ -40,15 +31,4 @@ returns c = tt
 pub try-traces-spec : {M : Type 1} → statement M
 try-traces-spec =
     tie.close
-    (tie.spec
-    Inv-loop
-    μ-loop
-    loop-holds
-    cell-requires
-    try-trace-requires
-    cell-requires-2
-    say-trace-requires
-    add-turn
-    loop-less
-    loop-again
-    returns)
+    (tie.spec Inv-loop μ-loop loop-holds try-trace-requires add-turn loop-less loop-again returns)

@@ -28,11 +28,17 @@ returns c = tt
 text-end-requires : tie.Need-text-end-requires Inv-loop μ-loop
 text-end-requires c κs = tt
 
+wrapping-add-u64-requires-2 : tie.Need-wrapping-add-u64-requires-2 Inv-loop μ-loop
+wrapping-add-u64-requires-2 c κs = tt
+
+put-requires : tie.Need-put-requires Inv-loop μ-loop
+put-requires c κs = tt
+
 try-case-requires : tie.Need-try-case-requires Inv-loop μ-loop
 try-case-requires c κs = tt
 
-wrapping-add-u64-requires-2 : tie.Need-wrapping-add-u64-requires-2 Inv-loop μ-loop
-wrapping-add-u64-requires-2 c κs = tt
+wrapping-add-u64-requires-3 : tie.Need-wrapping-add-u64-requires-3 Inv-loop μ-loop
+wrapping-add-u64-requires-3 c κs = tt
 
 add-cases : tie.Need-add-cases Inv-loop μ-loop
 add-cases c = search needs
@@ -58,8 +64,10 @@ try-cases-spec =
     header-at-requires
     returns
     text-end-requires
-    try-case-requires
     wrapping-add-u64-requires-2
+    put-requires
+    try-case-requires
+    wrapping-add-u64-requires-3
     add-cases
     loop-less
     loop-again
