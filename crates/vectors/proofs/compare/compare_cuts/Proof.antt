@@ -1,0 +1,54 @@
+-- `vectors::compare::compare_cuts` is safe and ends. Nothing has to hold from turn to turn; the measure is what is left to count.
+use borrow.Author.Needs.{needs}
+use Prim.Native.Nat.{_-_}
+use Rattle.vectors.proofs.compare.compare_cuts.Statement.{statement}
+use Rattle.vectors.proofs.compare.compare_cuts.Tie as tie
+
+abbrev Inv-loop : tie.InvT-loop
+Inv-loop book₀ list seen count i₀ book i = Unit {0}
+
+abbrev μ-loop : tie.MeasureT-loop
+μ-loop book₀ list seen count i₀ book i = count - i
+
+loop-holds : tie.Need-loop-holds Inv-loop μ-loop
+loop-holds c = tt
+
+wrapping-add-u64-requires : tie.Need-wrapping-add-u64-requires Inv-loop μ-loop
+wrapping-add-u64-requires c κs = tt
+
+listed-requires : tie.Need-listed-requires Inv-loop μ-loop
+listed-requires c κs = tt
+
+written-cut-requires : tie.Need-written-cut-requires Inv-loop μ-loop
+written-cut-requires c κs = tt
+
+same-requires : tie.Need-same-requires Inv-loop μ-loop
+same-requires c κs = tt
+
+add-i : tie.Need-add-i Inv-loop μ-loop
+add-i c = search needs
+
+loop-less : tie.Need-loop-less Inv-loop μ-loop
+loop-less c = search needs
+
+loop-again : tie.Need-loop-again Inv-loop μ-loop
+loop-again c = tt
+
+returns : tie.Need-returns Inv-loop μ-loop
+returns c = tt
+
+pub compare-cuts-spec : {M : Type 1} → statement M
+compare-cuts-spec =
+    tie.close
+    (tie.spec
+    Inv-loop
+    μ-loop
+    loop-holds
+    wrapping-add-u64-requires
+    listed-requires
+    written-cut-requires
+    same-requires
+    add-i
+    loop-less
+    loop-again
+    returns)

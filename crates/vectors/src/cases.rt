@@ -1,0 +1,134 @@
+// The texts of the file `stdin`, each below a line `>R,L,n,T` that says what reading it gives: refusal number and line (0,0
+// for a text that is read), and the record. A text goes up to the line end before the next `>`, which is not part of it.
+use crate::book::TEXT;
+use crate::calls::Told;
+use crate::cells::Book;
+use crate::cells::cell;
+use crate::cells::put;
+use crate::cells::times;
+use crate::cells::wide;
+use crate::lend::read_text;
+use crate::notes::CASES;
+use crate::notes::FIXED;
+use crate::notes::same;
+use crate::notes::same_word;
+use libc::STDIN_FILENO;
+use std::num::wrapping_add_u64;
+use std::num::wrapping_sub_u64;
+
+// Where the input stands in the book, a byte to a cell.
+const INPUT: u64 = 176128;
+
+fn keep_input(book: &mut Book, input: &[u8; 8192]) {
+    let mut i: usize = 0;
+    while i < 8192 {
+        put(book, wrapping_add_u64(INPUT, i as u64), wide(input[i]));
+        i += 1;
+    }
+}
+
+fn read_input(book: &mut Book) -> u64 {
+    let mut input = [0u8; 8192];
+    let count = io::read_full(STDIN_FILENO, &mut input);
+    keep_input(book, &input);
+    count as u64
+}
+
+fn letter(book: &Book, at: u64) -> u64 {
+    cell(book, wrapping_add_u64(INPUT, at))
+}
+
+// A number of the header and the index behind the byte that ends it.
+struct Parsed {
+    value: u64,
+    next: u64,
+}
+
+fn number_at(book: &Book, from: u64) -> Parsed {
+    let mut value: u64 = 0;
+    let mut digits: u64 = 0;
+    while digits < 8 {
+        let digit = letter(book, wrapping_add_u64(from, digits));
+        if digit < 48 {
+            break;
+        }
+        value = wrapping_add_u64(times(value, 10), wrapping_sub_u64(digit, 48));
+        digits += 1;
+    }
+    Parsed {
+        value,
+        next: wrapping_add_u64(wrapping_add_u64(from, digits), 1),
+    }
+}
+
+struct Header {
+    want: Told,
+    next: u64,
+}
+
+fn header_at(book: &Book, from: u64) -> Header {
+    let word = number_at(book, from);
+    let line = number_at(book, word.next);
+    let tablets = number_at(book, line.next);
+    let events = number_at(book, tablets.next);
+    Header {
+        want: Told {
+            word: word.value,
+            line: line.value,
+            tablets: tablets.value,
+            events: events.value,
+        },
+        next: events.next,
+    }
+}
+
+// The index of the line end before the next `>`, or the end of the input.
+fn text_end(book: &Book, from: u64, end: u64) -> u64 {
+    let mut i = from;
+    while i < end {
+        if letter(book, i) == 10 && letter(book, wrapping_add_u64(i, 1)) == 62 {
+            return i;
+        }
+        i += 1;
+    }
+    end
+}
+
+fn put_text(book: &mut Book, from: u64, length: u64) {
+    let mut i: u64 = 0;
+    while i < length {
+        let v = letter(book, wrapping_add_u64(from, i));
+        put(book, wrapping_add_u64(TEXT, i), v);
+        i += 1;
+    }
+}
+
+fn try_case(book: &mut Book, want: Told, from: u64, to: u64) {
+    let length = wrapping_sub_u64(to, from);
+    put_text(book, from, length);
+    let got = read_text(book, length);
+    same_word(book, FIXED, want.word, got.word);
+    same(book, FIXED, want.line, got.line);
+    same(book, FIXED, want.tablets, got.tablets);
+    same(book, FIXED, want.events, got.events);
+}
+
+// Each text of the input in turn, up to the line `>` that ends it; how many were begun is noted.
+pub(crate) fn try_cases(book: &mut Book) {
+    let end = read_input(book);
+    let mut at: u64 = 0;
+    let mut cases: u64 = 0;
+    while cases < 1000 {
+        let header = header_at(book, wrapping_add_u64(at, 1));
+        let from = header.next;
+        if end <= from {
+            return;
+        }
+        let to = text_end(book, from, end);
+        let want = header.want;
+        put(book, CASES, wrapping_add_u64(cases, 1));
+        try_case(book, want, from, to);
+        at = wrapping_add_u64(to, 1);
+        cases += 1;
+    }
+}

@@ -1,0 +1,176 @@
+// Stores, positions, sets and outputs that are refused: by which number, and that nothing else is said or changed. A call is
+// given several faults at once, so that the first that applies is seen to be given.
+use crate::book::Row;
+use crate::book::events;
+use crate::book::tablets;
+use crate::calls::CHECK;
+use crate::calls::Request;
+use crate::calls::WHOLE;
+use crate::calls::WRITE;
+use crate::cells::Book;
+use crate::cells::cell;
+use crate::cells::put;
+use crate::cells::wide;
+use crate::cells::wide_word;
+use crate::compare::compare_rest;
+use crate::compare::request_asking;
+use crate::generate::draw;
+use crate::lend::CHANGED;
+use crate::lend::CHANGED_TO;
+use crate::lend::LENT_EVENTS;
+use crate::lend::LENT_TABLETS;
+use crate::lend::SHORT;
+use crate::lend::accept_in_store;
+use crate::lend::ask_store;
+use crate::lend::lend_sound;
+use crate::lend::replayed;
+use crate::lend::slot_at;
+use crate::lend::stored_byte;
+use crate::notes::REFUSALS;
+use crate::notes::same;
+use crate::notes::same_word;
+use crate::second::Asking;
+use crate::second::SET;
+use crate::traces::sets;
+use std::num::wrapping_add_u64;
+
+fn set_of(k: u64) -> Asking {
+    Asking { question: SET, k }
+}
+
+// An interval or piece, a place that no interval has, an output that takes neither a cut nor a piece, a set without a tablet.
+fn faulty_request(call: u64, p: u64) -> Request {
+    Request {
+        call,
+        p,
+        begun: true,
+        cut: 18446744073709551615,
+        length: 7,
+        asking: set_of(0),
+    }
+}
+
+// A call that is refused by a number: it counts and writes nothing. A listing gives its place back, any other call zeros.
+fn refuse(book: &mut Book, request: Request, number: u64) {
+    let got = ask_store(book, request);
+    same_word(book, REFUSALS, number, got.word);
+    same(book, REFUSALS, 0, got.number);
+    same(
+        book,
+        REFUSALS,
+        if got.begun { request.cut } else { 0 },
+        got.cut,
+    );
+    compare_rest(book, 0, request.length);
+}
+
+// Listing, gathering, counting, asking and writing. The piece is the one behind p, which for p above T is above T+1.
+fn refuse_at(book: &mut Book, p: u64, number: u64) {
+    let mut call: u64 = 1;
+    while call < WRITE {
+        refuse(book, faulty_request(call, p), number);
+        call += 1;
+    }
+    refuse(book, faulty_request(WRITE, wrapping_add_u64(p, 1)), number);
+}
+
+// All calls on a store that is refused whatever is asked, and accepting, which leaves the record as given.
+fn refuse_store(book: &mut Book, number: u64) {
+    refuse_at(book, 9999, number);
+    refuse(book, faulty_request(CHECK, 0), number);
+    let event = Row {
+        tablet: 0,
+        clock: 0,
+        held: 0,
+    };
+    let offered = accept_in_store(book, event, false);
+    let after = offered.record;
+    same_word(book, REFUSALS, number, offered.word);
+    same(
+        book,
+        REFUSALS,
+        cell(book, LENT_TABLETS),
+        wide(after.tablets),
+    );
+    same(
+        book,
+        REFUSALS,
+        cell(book, LENT_EVENTS),
+        wide_word(after.events),
+    );
+}
+
+// One thing wrong with the store that is lent; then it is sound again.
+fn refuse_with(book: &mut Book, what: u64, v: u64, number: u64) {
+    put(book, what, v);
+    refuse_store(book, number);
+    lend_sound(book);
+}
+
+// Each buffer one short of document 01's size; at just that size it is the position that is refused.
+fn refuse_short(book: &mut Book) {
+    let mut short: u64 = 1;
+    while short < 5 {
+        put(book, SHORT, short);
+        refuse_at(book, 9999, if short < 4 { 2 } else { 9 });
+        short += 1;
+    }
+    lend_sound(book);
+}
+
+// Records with a number of tablets or events that cannot be. With one event more than there are, the mark in the order byte
+// names no tablet.
+pub(crate) fn refuse_records(book: &mut Book) {
+    lend_sound(book);
+    refuse_with(book, LENT_TABLETS, 0, 1);
+    refuse_with(book, LENT_TABLETS, 9, 1);
+    refuse_with(book, LENT_EVENTS, 2033, 3);
+    refuse_with(book, LENT_EVENTS, wrapping_add_u64(events(book), 1), 3);
+    refuse_short(book);
+}
+
+fn refuse_set(book: &mut Book, p: u64, set: u64) {
+    refuse(book, request_asking(set_of(set), p), 13);
+}
+
+// Positions above T; the empty set, and one that names the tablet behind the last, of an interval and of the whole trace.
+pub(crate) fn refuse_questions(book: &mut Book) {
+    lend_sound(book);
+    refuse_at(book, wrapping_add_u64(events(book), 1), 9);
+    refuse_set(book, 0, 0);
+    refuse_set(book, WHOLE, 0);
+    let beyond = sets(tablets(book));
+    if beyond < 256 {
+        let set = wrapping_add_u64(beyond, draw(book, beyond));
+        refuse_set(book, WHOLE, set);
+    }
+}
+
+// One byte of the clock of some event, or an order byte, as `lend` numbers them.
+fn draw_byte(book: &mut Book) -> u64 {
+    let q = draw(book, events(book));
+    if draw(book, 4) == 0 {
+        return wrapping_add_u64(20001, q);
+    }
+    let slot = slot_at(book, wrapping_add_u64(q, 1));
+    8 * (slot % 4096) + draw(book, 8) % 8 + 1
+}
+
+// One byte of the store is changed by one: what the store's own test says, and all calls where it is not valid.
+pub(crate) fn change_byte(book: &mut Book) {
+    lend_sound(book);
+    let changed = draw_byte(book);
+    let by = if draw(book, 2) == 0 { 1 } else { 255 };
+    put(
+        book,
+        CHANGED_TO,
+        wrapping_add_u64(stored_byte(book, changed), by),
+    );
+    put(book, CHANGED, changed);
+    let number = replayed(book);
+    refuse(book, faulty_request(CHECK, 0), number);
+    if number == 3 {
+        refuse_store(book, 3);
+    }
+    lend_sound(book);
+}
