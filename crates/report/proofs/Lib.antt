@@ -4,4 +4,3 @@ pub mod Sums
 pub mod Asking
 pub mod Outcomes
 pub mod Unique
-pub mod Cases

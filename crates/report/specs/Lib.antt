@@ -1,4 +1,3 @@
 -- Document 01, "What cutcheck prints".
 pub mod Answers
 pub mod Report
-pub mod Cases

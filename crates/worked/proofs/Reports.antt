@@ -18,8 +18,8 @@ use Rattle.loglines.specs.Keys.{numberLine, clockLine, endsHere}
 use Rattle.loglines.specs.Events.{heldPart, clockPart, eventLines}
 use Rattle.text.specs.Reading.{ending, turn, readOn, beginning, reading}
 use Rattle.sheet.specs.Printing.{witnessLine, headLines, tailLines, answerLines}
 use Rattle.report.specs.Report.{counting, answering, answeringRead, tracing, looking, reporting}
-use Rattle.report.specs.Cases.{table}
+use Rattle.worked.specs.Reports.{table}
 
 pub reports-as-written : T (passed table)
 unfolding eight zeros slot clockIn covered tallies tabletRefusal othersWithin covers clockRefusal followRefusal accepted eventRefusal closed consistent cutsBetween interval allCuts total holding sumHeld meets setFits answer decimal plain digitsFrom number lineLength valueBehind notListed listed keyLine listLine pairLine namedSet allForm exactlyForm askOf askLine numberLine clockLine endsHere heldPart clockPart eventLines ending turn readOn beginning reading witnessLine headLines tailLines answerLines counting answering answeringRead tracing looking reporting

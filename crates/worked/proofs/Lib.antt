@@ -1,0 +1,2 @@
+-- That the table holds.
+pub mod Reports
