@@ -94,7 +94,8 @@ abbrev pub following : Look → List ℕ → List ℕ → List ℕ → List ℕ 
 following (Refuses why) trace clocks held order out = outcome (refusedShown (numberOf why) 0 out) clocks held order
 following (Asks question) trace clocks held order out = tracing (reading trace clocks held order) question out
 
--- "Checks: 15 with line 0, ask line, trace, 13 with line 0."
+-- "Checks: 15 with line 0, ask line, trace, 13 with line 0." An output that is shorter than `room` is 14 before them, and is left
+-- as it was: our choice, told at `room`.
 unfoldable pub reporting : List ℕ → List ℕ → List ℕ → List ℕ → List ℕ → ReportOutcome
 reporting input clocks held order out =
     cond (ltb (length out) room) (outcome (record { refusal = 14; line = 0; length = 0; output = out }) clocks held order)
