@@ -24,11 +24,8 @@ use cells::put;
 use damaged::change_byte;
 use damaged::refuse_questions;
 use damaged::refuse_records;
-use fixed::refuse_after_a;
-use fixed::refuse_of_three;
 use fixed::try_all_full;
 use fixed::try_empty;
-use fixed::try_fixed;
 use fixed::try_one_full;
 use notes::SEED;
 use offers::offer_drawn;
@@ -68,15 +65,6 @@ fn try_traces(book: &mut Book) {
     }
 }
 
-// Document 01's own cases.
-fn try_document(book: &mut Book) {
-    try_fixed(book, 0);
-    try_fixed(book, 1);
-    try_fixed(book, 2);
-    refuse_after_a(book);
-    refuse_of_three(book);
-}
-
 // The edge sizes: no events, one tablet full, all tablets full.
 fn try_edges(book: &mut Book) {
     try_empty(book);
@@ -88,7 +76,6 @@ fn main() {
     let mut book = [0u64; 184320];
     put(&mut book, SEED, 20260);
     try_cases(&mut book);
-    try_document(&mut book);
     try_edges(&mut book);
     try_traces(&mut book);
     say_summary(&book);
