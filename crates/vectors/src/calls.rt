@@ -219,7 +219,15 @@ fn call_gather(
         return nothing();
     }
     let position = Position(low_word(request.p));
-    let gathered = cuts::gather(record, clocks, held, order, position, &mut out[..length]);
+    let gathered = cuts::gather(
+        record,
+        clocks,
+        held,
+        order,
+        position,
+        position,
+        &mut out[..length],
+    );
     let answer = gathered.answer;
     plain(listing_word(answer), gathered.written as u64, 0)
 }
