@@ -4,4 +4,3 @@ pub mod Listings
 pub mod Members
 pub mod Gathering
 pub mod Unique
-pub mod Theorems
