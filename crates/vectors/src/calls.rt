@@ -18,6 +18,7 @@ use cuts::Listed;
 use cuts::Listing;
 use model::Cut;
 use model::Job;
+use model::PieceNumber;
 use model::Place;
 use model::Position;
 use model::Question;
@@ -277,7 +278,7 @@ fn call_write(
     if out.len() < length {
         return nothing();
     }
-    let piece = Position(low_word(request.p));
+    let piece = PieceNumber(low_word(request.p));
     let written = text::write(record, clocks, held, order, piece, &mut out[..length]);
     let verdict = written.verdict;
     plain(verdict_word(verdict), written.length as u64, 0)
