@@ -1,6 +1,12 @@
--- `read`: a walk of its MIR, by hand. The reader that `over` makes is held in a local, and each turn moves it on. For each turn
--- the three buffers are lent again to `take_turn` and come back (`Again`); of the callees the proof knows only that they meet their
--- contracts. What holds between two turns is a `Point`.
+-- `read_lines`: a walk of its MIR, by hand, since a local holds the reader. The reader that `over` makes is moved to where each step has
+-- come; for each turn the three buffers are lent again to `take_turn` and come back (`Again`). Of the callees the proof knows only
+-- that they meet their contracts. What holds between two turns is a `Point`.
+--     exits                   from what is owned at the end to what the contract says
+--     to-.., goes-.., ..-said  of each call: what it is given, that its assumptions hold, and what it promises
+--     turns                   one turn of the loop: `moved`, then `stopped` and the return, or `take_turn`
+--     looping                 the loop, by the measure of `Points`
+--     walk                    entry, `over`, `begun`, and the loop
+-- In brackets, in a comment: the context at that point, from its front.
 use mathlib.Core.Path.{_≡_, refl, ap, _∙_, subst}
 use mathlib.Core.Bool.{true}
 use mathlib.Core.List.{List, [], _∷_, _++_}
@@ -105,6 +111,10 @@ Full clocks held order = fullSizes (clocks .now) (held .now) (order .now) ≡ tr
 with-fact : {M : Type 1} (𝓤 : URA M) (E : SProp 𝓤) {G : SProp 𝓤} (φ : Type 0) → (φ → ent 𝓤 E G) → ent 𝓤 (sep 𝓤 E (fact 𝓤 φ)) G
 with-fact 𝓤 E φ k = fact-use 𝓤 φ (snd∗ 𝓤 E (fact 𝓤 φ)) (λ x. via 𝓤 E (fst∗ 𝓤 E (fact 𝓤 φ)) (k x))
 
+-- what a turn does behind its test
+abbrev behind-test : Body
+behind-test = after (after (after (after Mir.turn-1)))
+
 -- A context of the walk holds two items for each of the 19 locals, the last local first, and then what is owned. The locals: 0 the
 -- answer, 1 the text, 2 to 4 the buffers, 5 the reader, 6 the step, 7 the reader handed to `moved`, 8 the test for the end, 9 to 11 the
 -- reader's parts handed to `take_turn`, 12 to 17 each buffer's pointer and slice lent to it, 18 the line handed to `stopped`.
@@ -168,6 +178,9 @@ module _ {M : Type 1} (𝓤 : URA M) (H : Heap 𝓤) (A : Atoms 𝓤) (W : Given
   abbrev reader : ℕ → ℕ → Reader
   reader at line = record { src = s; at = at; line = line }
 
+  abbrev Stands : ℕ → ℕ → Reader → Type 0
+  Stands at line r = (r .src ≡ s) × (r .at ≡ at) × (r .line ≡ line)
+
   abbrev mach : ℕ → ℕ → Val
   mach at line = T′.lowered (reader at line)
 
@@ -222,8 +235,8 @@ module _ {M : Type 1} (𝓤 : URA M) (H : Heap 𝓤) (A : Atoms 𝓤) (W : Given
   goes-over : ent 𝓤 (⋆ 𝓤 H A (‵ Own ∷ (‵ (flft κ₀ q₀) ⊛ ‵ ftrue) ∷ [])) (Over 𝓤 H A mem run .pre to-over)
   goes-over = qed W (‵ Own ∷ (‵ (flft κ₀ q₀) ⊛ ‵ ftrue) ∷ []) ∵ nothing ! $ move ! (1 ∷ 0 ∷ []) $ fjoin ! $ move ! (1 ∷ 0 ∷ []) $ join ! $ frame ! $ done !
 
-  over-said : (r : Reader) → ent 𝓤 (ensured 𝓤 H A over.ended (over.clauses 𝓤 H A mem run) (κ₀, tt) (s, tt) tt r) (fact 𝓤 ((r .src ≡ s) × (r .at ≡ 0) × (r .line ≡ 1)))
-  over-said r = exE 𝓤 _ (λ ws. snd∗ 𝓤 (sem 𝓤 H A (lasts over.ended (κ₀, tt) (s, tt) ws)) (fact 𝓤 ((r .src ≡ s) × (r .at ≡ 0) × (r .line ≡ 1))))
+  over-said : (r : Reader) → ent 𝓤 (ensured 𝓤 H A over.ended (over.clauses 𝓤 H A mem run) (κ₀, tt) (s, tt) tt r) (fact 𝓤 (Stands 0 1 r))
+  over-said r = exE 𝓤 _ (λ ws. snd∗ 𝓤 (sem 𝓤 H A (lasts over.ended (κ₀, tt) (s, tt) ws)) (fact 𝓤 (Stands 0 1 r)))
 
   -- the call of `begun`
   abbrev to-begun : Begun 𝓤 H A mem run .Ghost
@@ -255,8 +268,8 @@ module _ {M : Type 1} (𝓤 : URA M) (H : Heap 𝓤) (A : Atoms 𝓤) (W : Given
         owned ! usize (Is usize) (uint-makes 𝓤 H A W w64) (t .line) _ (refl, line-fits) $ fjoin ! $ owned ! usize (Is usize) (uint-makes 𝓤 H A W w64) (t .at) _ (refl, at-fits) $ fjoin ! $
         move ! (1 ∷ 0 ∷ []) $ fjoin ! $ move ! (1 ∷ 0 ∷ []) $ join ! $ frame ! $ done !
 
-    moved-said : (r : Reader) → ent 𝓤 (ensured 𝓤 H A moved.ended (moved.clauses 𝓤 H A mem run) (κ₀, tt) (reader (p .at) (p .line), (t .at, (t .line, tt))) tt r) (fact 𝓤 ((r .src ≡ s) × (r .at ≡ t .at) × (r .line ≡ t .line)))
-    moved-said r = exE 𝓤 _ (λ ws. snd∗ 𝓤 (sem 𝓤 H A (lasts moved.ended (κ₀, tt) (reader (p .at) (p .line), (t .at, (t .line, tt))) ws)) (fact 𝓤 ((r .src ≡ s) × (r .at ≡ t .at) × (r .line ≡ t .line))))
+    moved-said : (r : Reader) → ent 𝓤 (ensured 𝓤 H A moved.ended (moved.clauses 𝓤 H A mem run) (κ₀, tt) (reader (p .at) (p .line), (t .at, (t .line, tt))) tt r) (fact 𝓤 (Stands (t .at) (t .line) r))
+    moved-said r = exE 𝓤 _ (λ ws. snd∗ 𝓤 (sem 𝓤 H A (lasts moved.ended (κ₀, tt) (reader (p .at) (p .line), (t .at, (t .line, tt))) ws)) (fact 𝓤 (Stands (t .at) (t .line) r)))
 
     -- the call of `stopped`
     abbrev to-stopped : Stopped 𝓤 H A mem run .Ghost
@@ -348,22 +361,24 @@ module _ {M : Type 1} (𝓤 : URA M) (H : Heap 𝓤) (A : Atoms 𝓤) (W : Given
       turns : (p : P) → Sq W (At p) (runs C Λ En Mir.turn-1 (anyQ (Left p)))
       unfolding afterTurn
       turns p =
-          -- the reader is moved to where the last step has come
+          -- the call of `moved`: the reader, the third item behind the locals, and the token, the first, are handed over
           move ! (40 ∷ 38 ∷ []) $ peeks ! B (Is B) (shows 𝓤 H A B) (reader (p .at) (p .line)) (mach (p .at) (p .line) ∷ []) (λ was.
           assigns ! (of-opd ! (load ! (from ! (stop !)) (look ! (cell 5 2) refl))) (from ! (stop !)) (init ! (cell 7 2) refl (LL.lawful (T.the-type αᵉ) (T′.the-laws αᵉ) 𝓤 H A W .typed (reader (p .at) (p .line)) _ was .0)) $
           use2 W (raw (Moved 𝓤 H A mem run .pre (to-moved p))) (goes-moved p) $
           calls-at ! fm (Moved 𝓤 H A mem run) known-moved (to-moved p) (and-then ! (load ! (from ! (stop !)) (look ! (cell 7 1) refl)) (and-then ! (load ! (from ! (fld ! refl (stop !))) (look-in ! (cell 6 1) (sub ! 1 refl (whole !)))) (and-then ! (load ! (from ! (fld ! refl (stop !))) (look-in ! (cell 6 1) (sub ! 2 refl (whole !)))) (no-more !)))) (λ u.
           use1 W (later (some (λ (r : Reader). ((‵ (flft κ₀ q₀) ⊛ ‵ ftrue) ⊛ ‵ (B .own r (u ∷ []))) ⊛ raw (ensured 𝓤 H A moved.ended (moved.clauses 𝓤 H A mem run) (κ₀, tt) (reader (p .at) (p .line), (p .step .at, (p .step .line, tt))) tt r)))) (id⊢ 𝓤 _) $ await ! tt $ pick ! (λ r.
-          split ! $ move ! (1 ∷ []) $ use1 W (raw (fact 𝓤 ((r .src ≡ s) × (r .at ≡ p .step .at) × (r .line ≡ p .step .line)))) (moved-said p r) $ heard ! ((r .src ≡ s) × (r .at ≡ p .step .at) × (r .line ≡ p .step .line)) (λ e. split ! $ move ! (1 ∷ []) $
+          split ! $ move ! (1 ∷ []) $ use1 W (raw (fact 𝓤 (Stands (p .step .at) (p .step .line) r))) (moved-said p r) $ heard ! (Stands (p .step .at) (p .step .line) r) (λ e. split ! $ move ! (1 ∷ []) $
+          -- what came back is the reader at the step's offset and line, and is stored in its local
           rewrite ! 0 (λ (x : Reader). ‵ (B .own x (u ∷ []))) (λ i. record { src = e .0 i; at = e .1 i; line = e .2 i }) refl $
           peeks ! B (Is B) (shows 𝓤 H A B) (reader (p .step .at) (p .step .line)) (u ∷ []) (λ is.
           land ! (from ! (stop !)) (store ! (cell 5 2) refl (LL.lawful (T.the-type αᵉ) (T′.the-laws αᵉ) 𝓤 H A W .typed (reader (p .step .at) (p .step .line)) _ is .0)) $
           rewrite ! (cell 5 2) (λ (w : Val). ‵ (fat fullShare (T′.mir erased) l₅ 0 w)) (ap only (LL.tells (T.the-type αᵉ) (T′.the-laws αᵉ) (reader (p .step .at) (p .step .line)) _ is)) refl $
           rewrite ! 0 (λ (w : Val). ‵ (B .own (reader (p .step .at) (p .step .line)) (w ∷ []))) (ap only (LL.tells (T.the-type αᵉ) (T′.the-laws αᵉ) (reader (p .step .at) (p .step .line)) _ is)) refl $
-          -- [what the reader owns; the token; _20; …; _0; …; what the text owns; the buffers, each with its token]
+          -- [what the reader owns; the token; the locals; what the text owns; the buffers, each with its token]
+          -- the test of `step.more`
           assigns ! (un ! (load ! (from ! (fld ! refl (stop !))) (look-in ! (cell 6 2) (sub ! 0 refl (whole !)))) tt) (from ! (stop !)) (init ! (cell 8 2) refl (tt, tt)) $
           first ! $ branches ! (load ! (from ! (stop !)) (look ! (cell 8 2) refl))
-          -- no more: the answer is at the reader's line
+          -- no more: the call of `stopped` with the step and the reader's line
           (λ over. jumps ! $ exec ! C Λ En Mir.t-4 (atRet En Post) $
           assigns ! (of-opd ! (load ! (from ! (fld ! refl (stop !))) (look-in ! (cell 5 2) (sub ! 2 refl (whole !))))) (from ! (stop !)) (init ! (cell 18 2) refl (tt, record { fits = line-fits p })) $
           use0 W (raw (Stopped 𝓤 H A mem run .pre (to-stopped p))) (goes-stopped p) $
@@ -371,6 +386,7 @@ module _ {M : Type 1} (𝓤 : URA M) (H : Heap 𝓤) (A : Atoms 𝓤) (W : Given
           use1 W (later (some (λ (r : ReadAnswer). (‵ ftrue ⊛ ‵ (N.the-row .own r (w ∷ []))) ⊛ raw (ensured 𝓤 H A stopped.ended (stopped.clauses 𝓤 H A mem run) tt (p .step, (p .step .line, tt)) tt r)))) (id⊢ 𝓤 _) $ await ! tt $ pick ! (λ r.
           split ! $ move ! (1 ∷ []) $ use1 W (raw (fact 𝓤 (r ≡ stoppedAt (p .step) (p .step .line)))) (stopped-said p r) $ heard ! (r ≡ stoppedAt (p .step) (p .step .line)) (λ f. split ! $ lose ! $
           peeks ! N.the-row (Is N.the-row) (shows 𝓤 H A N.the-row) r (w ∷ []) (λ is-r.
+          -- the answer is stored and returned; the locals are emptied and freed, from the first to the last
           land ! (from ! (stop !)) (init ! (cell 0 3) refl (LL.lawful N.the-type N′.the-laws 𝓤 H A W .typed r _ is-r .0)) $
           returns ! (look ! (cell 0 3) refl) $ forget ! (cell 18 3) refl $ forget ! (cell 8 3) refl $ forget ! (cell 7 3) refl $ forget ! (cell 6 3) refl $ forget ! (cell 5 3) refl $ forget ! (cell 4 3) refl $ forget ! (cell 3 3) refl $ forget ! (cell 2 3) refl $ forget ! (cell 1 3) refl $ forget ! (cell 0 3) refl $
           move ! (cell 0 3 ∷ cell 0 4 ∷ []) $ free1 ! $ move ! (cell 1 3 ∷ cell 1 4 ∷ []) $ free1 ! $ move ! (cell 2 3 ∷ cell 2 4 ∷ []) $ free1 ! $ move ! (cell 3 3 ∷ cell 3 4 ∷ []) $ free1 ! $
@@ -380,8 +396,8 @@ module _ {M : Type 1} (𝓤 : URA M) (H : Heap 𝓤) (A : Atoms 𝓤) (W : Given
           move ! (cell 16 3 ∷ cell 16 4 ∷ []) $ free1 ! $ move ! (cell 17 3 ∷ cell 17 4 ∷ []) $ free1 ! $ move ! (cell 18 3 ∷ cell 18 4 ∷ []) $ free1 ! $ free0 ! $
           keep ! (0 ∷ 2 ∷ 4 ∷ 5 ∷ 6 ∷ 7 ∷ 8 ∷ 9 ∷ []) $ by ! (exits r w (p .clocks) (p .held) (p .order) (p .long₁) (p .long₂) (p .long₃)
           (ap (λ (x : ReadAnswer). readOutcome x (p .clocks) (p .held) (p .order)) f ∙ stops (s .now) (length (clocks .now)) (length (held .now)) (length (order .now)) goal p (is-off (p .step .more) over))))))))
-          -- more: the reader is taken apart, and a turn is taken where it stands
-          (λ more. skips ! $ exec ! C Λ En (after (after (after (after Mir.turn-1)))) (anyQ (Left p)) $
+          -- more: the reader is taken apart, and of each buffer the pointer and then the slice is taken
+          (λ more. skips ! $ exec ! C Λ En (behind-test) (anyQ (Left p)) $
           assigns ! (of-opd ! (load ! (from ! (fld ! refl (stop !))) (look-in ! (cell 5 2) (sub ! 0 refl (whole !))))) (from ! (stop !)) (init ! (cell 9 2) refl (tt, (tt, (record { fits = room .0 }, tt)))) $
           assigns ! (of-opd ! (load ! (from ! (fld ! refl (stop !))) (look-in ! (cell 5 2) (sub ! 1 refl (whole !))))) (from ! (stop !)) (init ! (cell 10 2) refl (tt, record { fits = at-fits p })) $
           assigns ! (of-opd ! (load ! (from ! (fld ! refl (stop !))) (look-in ! (cell 5 2) (sub ! 2 refl (whole !))))) (from ! (stop !)) (init ! (cell 11 2) refl (tt, record { fits = line-fits p })) $
@@ -391,32 +407,34 @@ module _ {M : Type 1} (𝓤 : URA M) (H : Heap 𝓤) (A : Atoms 𝓤) (W : Given
           assigns ! (agg ! (and-then ! (load ! (from ! (stop !)) (look ! (cell 14 2) refl)) (and-then ! (load ! (from ! (fld ! refl (stop !))) (look-in ! (cell 3 2) (sub ! 1 refl (whole !)))) (no-more !)))) (from ! (stop !)) (init ! (cell 15 2) refl (tt, (tt, (record { fits = room₂ .0 }, tt)))) $
           assigns ! (addr ! (from ! (fld ! refl (hop ! (look-in ! (cell 4 2) (sub ! 0 refl (whole !))) (stop !))))) (from ! (stop !)) (init ! (cell 16 2) refl (tt, tt)) $
           assigns ! (agg ! (and-then ! (load ! (from ! (stop !)) (look ! (cell 16 2) refl)) (and-then ! (load ! (from ! (fld ! refl (stop !))) (look-in ! (cell 4 2) (sub ! 1 refl (whole !)))) (no-more !)))) (from ! (stop !)) (init ! (cell 17 2) refl (tt, (tt, (record { fits = room₃ .0 }, tt)))) $
-          -- the buffers are lent again, for lifetimes of the call
+          -- the buffers are lent again, each for a lifetime of the call: its slice and its token, behind the locals, are brought to the front
           lft-new ! tt (λ ν₁. move ! (42 ∷ 43 ∷ []) $ use2 W (later (some (λ (δ : GName). ‵ (own₁ (ν₁ ∷ []) δ (p .clocks)) ⊛ ‵ (LentAgain u8 κ₁ (ν₁ ∷ []) q₁ (clocks .name) (clocks .ptr .0) (clocks .ptr .1) δ (p .clocks)))))
           (lends-at u8 κ₁ (ν₁ ∷ []) q₁ (clocks .name) (clocks .ptr .0) (clocks .ptr .1) 𝓤 H A W (named 1) (named 1) (p .clocks) (length (clocks .now)) (p .long₁)) $ await ! tt $ pick ! (λ δ₁. split ! $
           lft-new ! tt (λ ν₂. move ! (45 ∷ 46 ∷ []) $ use2 W (later (some (λ (δ : GName). ‵ (own₂ (ν₂ ∷ []) δ (p .held)) ⊛ ‵ (LentAgain u16 κ₂ (ν₂ ∷ []) q₂ (held .name) (held .ptr .0) (held .ptr .1) δ (p .held)))))
           (lends-at u16 κ₂ (ν₂ ∷ []) q₂ (held .name) (held .ptr .0) (held .ptr .1) 𝓤 H A W (named 2) (named 2) (p .held) (length (held .now)) (p .long₂)) $ await ! tt $ pick ! (λ δ₂. split ! $
           lft-new ! tt (λ ν₃. move ! (48 ∷ 49 ∷ []) $ use2 W (later (some (λ (δ : GName). ‵ (own₃ (ν₃ ∷ []) δ (p .order)) ⊛ ‵ (LentAgain u8 κ₃ (ν₃ ∷ []) q₃ (order .name) (order .ptr .0) (order .ptr .1) δ (p .order)))))
           (lends-at u8 κ₃ (ν₃ ∷ []) q₃ (order .name) (order .ptr .0) (order .ptr .1) 𝓤 H A W (named 3) (named 3) (p .order) (length (order .now)) (p .long₃)) $ await ! tt $ pick ! (λ δ₃. split ! $
-          -- [order's loan, what is kept, its token; held's; clocks'; what the reader owns; the token; _20; …; what the text owns]
+          -- [order's loan, what is kept, its token; held's; clocks'; what the reader owns; the token; the locals; what the text owns]
+          -- the call of `take_turn`: what its parameters own is joined, from the last to the first, and then their tokens
           move ! (49 ∷ []) $ use1 W (‵ Own ⊛ ‵ Own) (shr-slice-copy 𝓤 H A W (named 0) κ₀ u8 .twice s (v ∷ [])) $ split ! $
           nothing ! $ move ! (3 ∷ 0 ∷ []) $ fjoin ! $ move ! (5 ∷ 0 ∷ []) $ fjoin ! $ move ! (7 ∷ 0 ∷ []) $ fjoin ! $
           owned ! S.the-row (Is S.the-row) (LL.makes S.the-type S′.the-plain 𝓤 H A) (p .step) _ (p .is) $ fjoin ! $
           owned ! usize (Is usize) (uint-makes 𝓤 H A W w64) (p .step .line) _ (refl, line-fits p) $ fjoin ! $ owned ! usize (Is usize) (uint-makes 𝓤 H A W w64) (p .step .at) _ (refl, at-fits p) $ fjoin ! $
           move ! (1 ∷ 0 ∷ []) $ fjoin ! $ move ! (9 ∷ []) $ split ! $ move ! (5 ∷ 1 ∷ []) $ join ! $ move ! (6 ∷ 0 ∷ []) $ join ! $ move ! (7 ∷ 0 ∷ []) $ join ! $ move ! (1 ∷ 0 ∷ []) $ join ! $
           use2 W (raw (Turned 𝓤 H A mem run .pre (to-turn p ν₁ ν₂ ν₃ δ₁ δ₂ δ₃))) (goes-turn p ν₁ ν₂ ν₃ δ₁ δ₂ δ₃ (is-on (p .step .more) more)) $
-          -- [what `take_turn` asks; what the text owns; what is kept of order, held and clocks; what the reader owns; _20; …]
+          -- [what `take_turn` asks; what the text owns; what is kept of order, held and clocks; what the reader owns; the locals]
           calls-at-last ! fm (Turned 𝓤 H A mem run) known-turn (to-turn p ν₁ ν₂ ν₃ δ₁ δ₂ δ₃) (and-then ! (load ! (from ! (stop !)) (look ! (cell 9 6) refl)) (and-then ! (load ! (from ! (stop !)) (look ! (cell 10 6) refl)) (and-then ! (load ! (from ! (stop !)) (look ! (cell 11 6) refl)) (and-then ! (load ! (from ! (stop !)) (look ! (cell 6 6) refl)) (and-then ! (load ! (from ! (stop !)) (look ! (cell 13 6) refl)) (and-then ! (load ! (from ! (stop !)) (look ! (cell 15 6) refl)) (and-then ! (load ! (from ! (stop !)) (look ! (cell 17 6) refl)) (no-more !)))))))) (λ w.
           use1 W (later (some (λ (t : Step). (tokens p ν₁ ν₂ ν₃ δ₁ δ₂ δ₃ ⊛ ‵ (S.the-row .own t (w ∷ []))) ⊛ raw (ensured 𝓤 H A turn.ended (turn.clauses 𝓤 H A mem run) (κ₀, (ν₁ ∷ [], (ν₂ ∷ [], (ν₃ ∷ [], tt)))) (lent p ν₁ ν₂ ν₃ δ₁ δ₂ δ₃) tt t)))) (id⊢ 𝓤 _) $ await ! tt $ pick ! (λ t.
           split ! $ move ! (1 ∷ []) $ use1 W (some (λ (ws : Lasts turn.ended (κ₀, (ν₁ ∷ [], (ν₂ ∷ [], (ν₃ ∷ [], tt)))) (lent p ν₁ ν₂ ν₃ δ₁ δ₂ δ₃)). ‵ (lasts turn.ended (κ₀, (ν₁ ∷ [], (ν₂ ∷ [], (ν₃ ∷ [], tt)))) (lent p ν₁ ν₂ ν₃ δ₁ δ₂ δ₃) ws) ⊛ raw (fact 𝓤 (Took p ν₁ ν₂ ν₃ δ₁ δ₂ δ₃ t ws)))) (id⊢ 𝓤 _) $ pick ! (λ ws.
           split ! $ move ! (1 ∷ []) $ heard ! (Took p ν₁ ν₂ ν₃ δ₁ δ₂ δ₃ t ws) (λ took. fsplit ! $ lose ! $ fsplit ! $ lose ! $ fsplit ! $ lose ! $ fsplit ! $ lose ! $
           fsplit ! $ fsplit ! $ move ! (1 ∷ []) $ feqL ! (λ k₁. move ! (1 ∷ []) $ fsplit ! $ fsplit ! $ move ! (1 ∷ []) $ feqL ! (λ k₂. move ! (1 ∷ []) $ fsplit ! $ fsplit ! $ move ! (1 ∷ []) $ feqL ! (λ k₃.
-          -- the lifetimes are ended, and the buffers come back as `take_turn` left them
+          -- the lifetimes are ended, and the buffers come back as `take_turn` left them: `ws` holds the lists, clocks first
           move ! (4 ∷ []) $ split ! $ split ! $ move ! (1 ∷ []) $ split ! $
           lft-end ! tt $ move ! (0 ∷ 11 ∷ 7 ∷ []) $ use3 W (later (‵ (own₁ κ₁ (clocks .name) (ws .1 .1 .1 .1 .0)) ⊛ ‵ (flft κ₁ q₁))) (back-at u8 κ₁ (ν₁ ∷ []) q₁ (clocks .name) (clocks .ptr .0) (clocks .ptr .1) 𝓤 H A W (named 1) (named 1) (p .clocks) (length (clocks .now)) (p .long₁) δ₁ (ws .1 .1 .1 .1 .0) room₁ k₁) $ await ! tt $ split ! $ move ! (2 ∷ []) $ split ! $
           lft-end ! tt $ move ! (0 ∷ 11 ∷ 8 ∷ []) $ use3 W (later (‵ (own₂ κ₂ (held .name) (ws .1 .1 .1 .1 .1 .0)) ⊛ ‵ (flft κ₂ q₂))) (back-at u16 κ₂ (ν₂ ∷ []) q₂ (held .name) (held .ptr .0) (held .ptr .1) 𝓤 H A W (named 2) (named 2) (p .held) (length (held .now)) (p .long₂) δ₂ (ws .1 .1 .1 .1 .1 .0) room₂ k₂) $ await ! tt $ split ! $ move ! (2 ∷ []) $ split ! $
           lft-end ! tt $ move ! (0 ∷ 11 ∷ 8 ∷ []) $ use3 W (later (‵ (own₃ κ₃ (order .name) (ws .1 .1 .1 .1 .1 .1 .0)) ⊛ ‵ (flft κ₃ q₃))) (back-at u8 κ₃ (ν₃ ∷ []) q₃ (order .name) (order .ptr .0) (order .ptr .1) 𝓤 H A W (named 3) (named 3) (p .order) (length (order .now)) (p .long₃) δ₃ (ws .1 .1 .1 .1 .1 .1 .0) room₃ k₃) $ await ! tt $ split ! $
-          -- [order; its token; true; held; its token; clocks; its token; the token; what the step owns; true; what the text owns; what the reader owns; _20; …]
+          -- [order; its token; true; held; its token; clocks; its token; the token; what the step owns; true; what the text owns; what the reader owns; the locals]
+          -- the step is stored, the locals of the call are emptied, and the context is brought into the order of `At`
           move ! (7 ∷ 2 ∷ []) $ join ! $ move ! (7 ∷ []) $ peeks ! S.the-row (Is S.the-row) (shows 𝓤 H A S.the-row) t (w ∷ []) (λ is-t.
           land-last ! (from ! (stop !)) (store ! (cell 6 11) refl (LL.lawful S.the-type S′.the-laws 𝓤 H A W .typed t _ is-t .0)) $
           rewrite ! (cell 6 11) (λ (u′ : Val). ‵ (fat fullShare S′.mir l₆ 0 u′)) (ap only (LL.tells S.the-type S′.the-laws t _ is-t)) refl $
@@ -444,7 +462,7 @@ module _ {M : Type 1} (𝓤 : URA M) (H : Heap 𝓤) (A : Atoms 𝓤) (W : Given
         use2 W (raw (Over 𝓤 H A mem run .pre to-over)) goes-over $
         calls-at ! fm (Over 𝓤 H A mem run) known-over to-over (and-then ! (load ! (from ! (stop !)) (look ! (cell 1 9) refl)) (no-more !)) (λ u.
         use1 W (later (some (λ (r : Reader). ((‵ (flft κ₀ q₀) ⊛ ‵ ftrue) ⊛ ‵ (B .own r (u ∷ []))) ⊛ raw (ensured 𝓤 H A over.ended (over.clauses 𝓤 H A mem run) (κ₀, tt) (s, tt) tt r)))) (id⊢ 𝓤 _) $ await ! tt $ pick ! (λ r.
-        split ! $ move ! (1 ∷ []) $ use1 W (raw (fact 𝓤 ((r .src ≡ s) × (r .at ≡ 0) × (r .line ≡ 1)))) (over-said r) $ heard ! ((r .src ≡ s) × (r .at ≡ 0) × (r .line ≡ 1)) (λ e. split ! $ move ! (1 ∷ []) $
+        split ! $ move ! (1 ∷ []) $ use1 W (raw (fact 𝓤 (Stands 0 1 r))) (over-said r) $ heard ! (Stands 0 1 r) (λ e. split ! $ move ! (1 ∷ []) $
         rewrite ! 0 (λ (x : Reader). ‵ (B .own x (u ∷ []))) (λ i. record { src = e .0 i; at = e .1 i; line = e .2 i }) refl $
         peeks ! B (Is B) (shows 𝓤 H A B) (reader 0 1) (u ∷ []) (λ is.
         land ! (from ! (stop !)) (init ! (cell 5 10) refl (LL.lawful (T.the-type αᵉ) (T′.the-laws αᵉ) 𝓤 H A W .typed (reader 0 1) _ is .0)) $
@@ -458,7 +476,8 @@ module _ {M : Type 1} (𝓤 : URA M) (H : Heap 𝓤) (A : Atoms 𝓤) (W : Given
         peeks ! S.the-row (Is S.the-row) (shows 𝓤 H A S.the-row) t (w ∷ []) (λ is-t.
         land ! (from ! (stop !)) (init ! (cell 6 11) refl (LL.lawful S.the-type S′.the-laws 𝓤 H A W .typed t _ is-t .0)) $
         rewrite ! (cell 6 11) (λ (u′ : Val). ‵ (fat fullShare S′.mir l₆ 0 u′)) (ap only (LL.tells S.the-type S′.the-laws t _ is-t)) refl $
-        -- [what the step owns; the reader's; the token; the text's; order's, held's and clocks' tokens; order's; true; held's; clocks'; _20; …]
+        -- [what the step owns; the reader's; the token; the text's; order's, held's and clocks' tokens; order's; true; held's; clocks'; the locals]
+        -- brought into the order of `At`, this is where the loop begins
         keep ! (from-on 38 11 ++ (2 ∷ 3 ∷ 1 ∷ 10 ∷ 6 ∷ 9 ∷ 5 ∷ 7 ∷ 4 ∷ [])) $
         looping l₀ l₁ l₂ l₃ l₄ l₅ l₆ l₇ l₈ l₉ l₁₀ l₁₁ l₁₂ l₁₃ l₁₄ l₁₅ l₁₆ l₁₇ l₁₈
         (first-point (s .now) (clocks .now) (held .now) (order .now) full t f (subst (Is S.the-row t) (LL.tells S.the-type S′.the-laws t _ is-t) is-t)))))))))))))))))))))))))))))
