@@ -1,6 +1,6 @@
 -- `event_turn`: the last line, or the lines of an event, and what is left then reads as the text did.
 use mathlib.Core.Path.{_≡_, refl, sym, ap, _∙_}
-use mathlib.Core.Bool.{true, false}
+use mathlib.Core.Bool.{false}
 use mathlib.Core.List.{List}
 use Prim.Native.Nat.{ℕ, _^_, _+_, _≤_, _<_}
 use native.Mathlib.Omega.{arith}

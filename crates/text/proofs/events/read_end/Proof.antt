@@ -13,7 +13,7 @@ use Rattle.lines.specs.Find.{lineLength}
 use Rattle.lines.proofs.Entries.{rest-of}
 use Rattle.loglines.specs.Keys.{numberLine, eventsKey}
 use Rattle.loglines.specs.Events.{lineBytes}
-use Rattle.loglines.proofs.Lines.{number-some, number-inside}
+use Rattle.loglines.proofs.Lines.{number-some}
 use Rattle.text.specs.Steps.{Placed}
 use Rattle.text.proofs.Halts.{halts}
 use Rattle.text.proofs.Places.{few-lines, line-on}

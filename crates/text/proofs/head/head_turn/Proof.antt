@@ -1,7 +1,7 @@
 -- `head_turn`: the `tablets` line, and the reader behind it or at it.
 use mathlib.Core.Path.{_≡_, refl, sym, ap, _∙_, subst}
 use mathlib.Core.Bool.{true, cond}
-use mathlib.Core.List.{List, [], _∷_}
+use mathlib.Core.List.{[], _∷_}
 use Prim.Native.Nat.{ℕ, _+_, _-_}
 use native.Mathlib.Omega.{arith}
 use borrow.Author.Needs.{needs}
@@ -19,7 +19,7 @@ use Rattle.lines.specs.Find.{lineLength}
 use Rattle.lines.proofs.Entries.{rest-of}
 use Rattle.loglines.specs.Keys.{numberLine, tabletsKey}
 use Rattle.loglines.specs.Events.{lineBytes}
-use Rattle.loglines.proofs.Lines.{number-some, number-inside, value-limit}
+use Rattle.loglines.proofs.Lines.{number-some, value-limit}
 use Rattle.text.specs.declared.steps.Step.{Step}
 use Rattle.text.specs.Reading.{refused, nothingRead, freshRecord, readOn}
 use Rattle.text.specs.Steps.{feeds, Placed, begunStep, halted}
