@@ -14,6 +14,7 @@ use Rattle.model.specs.Store.{Store, storeOf, fullSizes}
 use Rattle.text.specs.declared.steps.Step.{Step}
 use Rattle.text.specs.Reading.{ReadOutcome, readOutcome, reading}
 use Rattle.text.specs.Steps.{Placed, begunStep, stoppedAt, readHere, resumed, TurnReady, GoesOn, StepTaken}
+use Rattle.text.proofs.Places.{at-front}
 use Rattle.text.proofs.steps.Step as S
 use Rattle.text.proofs.steps.Step.Laws as S′
 
@@ -101,7 +102,7 @@ module _ (text : List ℕ) (m₁ m₂ m₃ : ℕ) (goal : ReadOutcome) where
 -- before the first turn
 module _ (text : List ℕ) (clocks held order : List ℕ) (full : fullSizes clocks held order ≡ true) where
   pub first-ready : TurnReady text begunStep 0 1 (storeOf (begunStep .«record») clocks held order)
-  first-ready = record { placed = record { inside = omega arith; agrees = refl }; front = λ _. (refl, full); append = λ on. absurd (true≢false (sym on)) }
+  first-ready = record { placed = at-front text; front = λ _. (refl, full); append = λ on. absurd (true≢false (sym on)) }
 
   abbrev pub first-point : (t : Step) → t ≡ begunStep → Is S.the-row t (LL.vals S.the-type S′.the-laws t) → Point text (length clocks) (length held) (length order) (reading text clocks held order)
   first-point t e is = record {

@@ -8,7 +8,7 @@ use native.Mathlib.Omega.{arith}
 use native.Mathlib.Decide.{ℕ-discrete, decLe}
 use borrow.Author.Tests.{eq-eqb, ne-eqb, lt-ltb, le-ltb}
 use lib.Dec.{eqb, ltb}
-use lib.ListN.{length, drop, length-drop}
+use lib.ListN.{length, drop}
 use lib.Seq.{drop-drop}
 use Rattle.model.specs.declared.Event.{Event}
 use Rattle.model.specs.Store.{Store, accepted, eventRefusal}
@@ -17,14 +17,13 @@ use Rattle.store.proofs.Outcomes.{append-passed, append-refused}
 use Rattle.lines.specs.Find.{firstLine, restLines}
 use Rattle.lines.specs.declared.numbers.Number.{Number}
 use Rattle.lines.specs.declared.numbers.Number.the-variants.{Value, Faulty}
-use Rattle.lines.proofs.Parts.{line-inside}
 use Rattle.loglines.specs.declared.events.EventLines.{EventLines}
 use Rattle.loglines.specs.Keys.{numberLine, clockLine, endsHere, tabletKey, heldKey, eventsKey}
 use Rattle.loglines.specs.Events.{withNumber, faultyEvent, lineBytes, heldPart, clockPart, eventLines}
-use Rattle.loglines.proofs.Lines.{with-value, with-fault, number-some, number-inside, clock-some, clock-inside, no-clock, clock-then}
+use Rattle.loglines.proofs.Lines.{with-value, with-fault, number-some, clock-some, no-clock, clock-then}
 use Rattle.text.specs.Reading.{ReadOutcome, refused, ending, TurnOutcome, offered, turn, readFrom, readOn}
-use Rattle.text.specs.Steps.{feeds, Placed}
-use Rattle.text.proofs.Places.{feeds-parts, line-feeds, lines-on}
+use Rattle.text.specs.Steps.{Placed}
+use Rattle.text.proofs.Places.{at-front, behind-line, further}
 
 -- the last line
 
@@ -189,25 +188,20 @@ module _ (n : ℕ) (text : List ℕ) where
   event-lines = by-tablet (numberLine tabletKey 255 text) refl
 
   -- where the last line that was looked at begins, and how many lines stand before it
-  before-third : 1 ≤ length (firstLine text) → 1 ≤ length (firstLine second) → (lineBytes text + lineBytes second ≤ length text) × (feeds (lineBytes text + lineBytes second) text ≡ 2)
-  before-third one two =
-      let parts = feeds-parts (lineBytes text) (lineBytes second) text in (
-        omega (arith, line-inside text one, line-inside second two, length-drop (lineBytes text) text),
-        omega (arith, parts, line-feeds text one, line-feeds second two),
-      )
+  before-third : 1 ≤ length (firstLine text) → 1 ≤ length (firstLine second) → Placed text (lineBytes text + lineBytes second) 3
+  before-third one two = further text (lineBytes text) 2 (behind-line text one) (lineBytes second) 1 (behind-line second two)
 
-  looked-at : (e : EventLines) → eventLines n text ≡ e → (e .before ≤ length text) × (feeds (e .before) text ≡ linesBefore e) → (eventLines n text .before ≤ length text) × (feeds (eventLines n text .before) text ≡ linesBefore (eventLines n text))
-  looked-at e is =
-      subst (λ (x : EventLines). (x .before ≤ length text) × (feeds (x .before) text ≡ linesBefore x)) (sym is)
+  looked-at : (e : EventLines) → eventLines n text ≡ e → Placed text (e .before) (linesBefore e + 1) → Placed text (eventLines n text .before) (linesBefore (eventLines n text) + 1)
+  looked-at e is = subst (λ (x : EventLines). Placed text (x .before) (linesBefore x + 1)) (sym is)
 
-  by-said : EventSaid n text → (eventLines n text .before ≤ length text) × (feeds (eventLines n text .before) text ≡ linesBefore (eventLines n text))
-  by-said (no-tablet is) = looked-at _ is (omega arith, refl)
-  by-said (no-list one is) = looked-at _ is (omega (arith, line-inside text one), line-feeds text one)
+  by-said : EventSaid n text → Placed text (eventLines n text .before) (linesBefore (eventLines n text) + 1)
+  by-said (no-tablet is) = looked-at _ is (at-front text)
+  by-said (no-list one is) = looked-at _ is (behind-line text one)
   by-said (no-held one two is) = looked-at _ is (before-third one two)
   by-said (gives b) =
       looked-at _ (b .is) (before-third (number-some tabletKey 255 text (b .tablet) (b .tablet-is)) (clock-some n second (b .clock-fits)))
 
-  pub event-looked : (eventLines n text .before ≤ length text) × (feeds (eventLines n text .before) text ≡ linesBefore (eventLines n text))
+  pub event-looked : Placed text (eventLines n text .before) (linesBefore (eventLines n text) + 1)
   event-looked = by-said event-lines
 
 module _ (n : ℕ) (text : List ℕ) (whole : eventLines n text .fault ≡ 0) where
@@ -223,26 +217,19 @@ module _ (n : ℕ) (text : List ℕ) (whole : eventLines n text .fault ≡ 0) wh
   pub event-back : EventBack n text
   event-back = by-lines (event-lines n text)
 
-  -- they take three bytes or more, lie within the text, and are three lines
-  pub used-within : (3 ≤ eventLines n text .used) × (eventLines n text .used ≤ length text) × (feeds (eventLines n text .used) text ≡ 3)
+  -- they take three bytes or more, and are three whole lines
+  pub used-within : (3 ≤ eventLines n text .used) × Placed text (eventLines n text .used) 4
   used-within =
       let b = event-back in
       let second = restLines text in
       let third = restLines second in
       let used = ap (λ (l : EventLines). l .used) (b .is) in
-      let first = number-inside tabletKey 255 text (b .tablet) (b .tablet-is) in
-      let next = clock-inside n second (b .clock-fits) in
-      let last = number-inside heldKey 65535 third (b .held) (b .held-is) in
-      let long = length-drop (lineBytes text) text in
-      let longer = length-drop (lineBytes second) second in
-      let three : feeds (lineBytes text + lineBytes second + lineBytes third) text ≡ 3 = omega (
-        arith,
-        feeds-parts (lineBytes text + lineBytes second) (lineBytes third) text,
-        ap (feeds (lineBytes third)) (sym (drop-drop (lineBytes second) (lineBytes text) text)),
-        before-third n text (number-some tabletKey 255 text (b .tablet) (b .tablet-is)) (clock-some n second (b .clock-fits)) .1,
-        line-feeds third (number-some heldKey 65535 third (b .held) (b .held-is)),
-      ) in
-      (omega (arith, used), omega (arith, used, first, next, last, long, longer), ap (λ (k : ℕ). feeds k text) used ∙ three)
+      let two = before-third n text (number-some tabletKey 255 text (b .tablet) (b .tablet-is)) (clock-some n second (b .clock-fits)) in
+      let last = subst (λ (rest : List ℕ). Placed rest (lineBytes third) 2) (drop-drop (lineBytes second) (lineBytes text) text)
+      (behind-line third (number-some heldKey 65535 third (b .held) (b .held-is))) in (
+        omega (arith, used),
+        subst (λ (k : ℕ). Placed text k 4) (sym used) (further text (lineBytes text + lineBytes second) 3 two (lineBytes third) 1 last),
+      )
 
 -- a turn that passed: the event was accepted
 pub record TurnPassed (s : Store) (text : List ℕ) : Type 0 where
@@ -299,13 +286,13 @@ module _ (s : Store) (line : ℕ) (text : List ℕ) (at : ℕ) (o : TurnOutcome)
       let p = turn-passed s (drop at text) passed in
       let used = ap (λ (t : TurnOutcome). t .used) is ∙ p .used in
       let w = used-within (s .tablets) (drop at text) (p .whole) in
-      (omega (arith, used, w .0), lines-on text at line here (o .used) 3 (omega (arith, used, w .1)) (ap (λ (k : ℕ). feeds k (drop at text)) used ∙ w .2))
+      (omega (arith, used, w .0), further text at line here (o .used) 3 (subst (λ (k : ℕ). Placed (drop at text) k 4) (sym used) (w .1)))
 
   pub on-line : (before : ℕ) → before ≡ eventLines (s .tablets) (drop at text) .before → Placed text (at + before) (line + o .line)
   on-line before b =
-      let e = event-looked (s .tablets) (drop at text) in
       let lines = ap (λ (t : TurnOutcome). t .line) is ∙ turn-line s (drop at text) in
-      lines-on text at line here before (o .line) (omega (arith, b, e .0)) (ap (λ (k : ℕ). feeds k (drop at text)) b ∙ e .1 ∙ sym lines)
+      further text at line here before (o .line)
+      (subst (λ (k : ℕ). Placed (drop at text) k (o .line + 1)) (sym b) (subst (λ (k : ℕ). Placed (drop at text) (eventLines (s .tablets) (drop at text) .before) (k + 1)) (sym lines) (event-looked (s .tablets) (drop at text))))
 
   module _ (few : s .events ≤ 2032) (goes : endsHere (drop at text) ≡ false) where
     pub on-again : o .refusal ≡ 0 → readOn s line (drop at text) ≡ readOn (o .store) (line + 3) (drop (at + o .used) text)

@@ -4,7 +4,7 @@ use mathlib.Core.Bool.{Bool, true, false, cond}
 use mathlib.Core.List.{List, [], _∷_}
 use Prim.Native.Nat.{ℕ, zero, suc, _+_, _≤_, _<_}
 use lib.Dec.{eqb}
-use lib.ListN.{length, drop}
+use lib.ListN.{length, getD, drop}
 use Rattle.model.specs.declared.Record.{Record}
 use Rattle.model.specs.declared.Verdict.{Verdict}
 use Rattle.model.specs.declared.Verdict.the-variants.{Passed}
@@ -29,9 +29,15 @@ feeds (suc at) (b ∷ bs) = cond (eqb b 10) 1 0 + feeds at bs
 abbrev pub lineAt : List ℕ → ℕ → ℕ
 lineAt text at = feeds at text + 1
 
--- an offset within the text, and its line
+-- whether a line begins at an offset: at the text's front, or behind an LF
+abbrev pub beginsLine : List ℕ → ℕ → Bool
+beginsLine text zero = true
+beginsLine text (suc at) = eqb (getD text at 0) 10
+
+-- an offset within the text where a line begins, and that line
 pub record Placed (text : List ℕ) (at line : ℕ) : Type 0 where
   pub inside : at ≤ length text
+  pub begins : beginsLine text at ≡ true
   pub agrees : line ≡ lineAt text at
 
 -- The steps.
@@ -81,7 +87,7 @@ pub record GoesOn (at : ℕ) (t : Step) (s : Store) : Type 0 where
   pub append : AppendReady s (t .tallies)
   pub further : at < t .at
 
--- what is read from the step on is what was to be read, and the step's offset and line agree
+-- what is read from the step on is what was to be read, and at the step's offset its line begins
 pub record StepTaken (text : List ℕ) (at : ℕ) (whole : ReadOutcome) (t : Step) (clocks held order : List ℕ) : Type 0 where
   pub outcome-is : resumed text t clocks held order ≡ whole
   pub placed : Placed text (t .at) (t .line)

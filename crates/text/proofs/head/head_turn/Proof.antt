@@ -22,10 +22,10 @@ use Rattle.loglines.specs.Events.{lineBytes}
 use Rattle.loglines.proofs.Lines.{number-some, value-limit}
 use Rattle.text.specs.declared.steps.Step.{Step}
 use Rattle.text.specs.Reading.{refused, nothingRead, freshRecord, readOn}
-use Rattle.text.specs.Steps.{feeds, Placed, begunStep, halted}
+use Rattle.text.specs.Steps.{Placed, begunStep, halted}
 use Rattle.text.proofs.Halts.{halts}
 use Rattle.text.proofs.Opening.{opened-fits, opened-not, opened-refused, opened-fresh, fresh-store, reading-faulty, reading-width, reading-goes}
-use Rattle.text.proofs.Places.{line-on}
+use Rattle.text.proofs.Places.{at-front, line-on}
 use Rattle.text.proofs.head.head_turn.Statement.{statement}
 use Rattle.text.proofs.head.head_turn.Tie as tie
 
@@ -40,11 +40,10 @@ known c = c .before .before .before .before
 whole-text : (c : tie.Start) → take (length (c .args .src .now) - c .args .at) (drop (c .args .at) (c .args .src .now)) ≡ c .args .src .now
 whole-text c = rest-of (c .args .src .now) (c .args .at) ∙ ap (λ (k : ℕ). drop k (c .args .src .now)) (c .pre .0)
 
-at-front : (c : tie.Start) → Placed (c .args .src .now) (c .args .at) (c .args .line)
-at-front c = record {
-  inside = omega (arith, c .pre .0);
-  agrees = c .pre .1 ∙ sym (ap (λ (k : ℕ). feeds k (c .args .src .now) + 1) (c .pre .0));
-}
+here : (c : tie.Start) → Placed (c .args .src .now) (c .args .at) (c .args .line)
+here c =
+    subst (λ (k : ℕ). Placed (c .args .src .now) k (c .args .line)) (sym (c .pre .0))
+    (subst (Placed (c .args .src .now) 0) (sym (c .pre .1)) (at-front (c .args .src .now)))
 
 count-is : (c : tie.After-known-told) → numberLine tabletsKey 255 (start-of c .args .src .now) ≡ Value (c .before .n .given .0 .0)
 count-is c = ap (numberLine tabletsKey 255) (sym (whole-text (start-of c))) ∙ sym (c .before .before .before .number-line .ensures) ∙ c .before .n .given .1
@@ -68,7 +67,7 @@ behind c =
     let k = known (c .before .before) in
     let s = start-of k in
     let rest : s .args .src .now ≡ drop (s .args .at) (s .args .src .now) = sym (ap (λ (m : ℕ). drop m (s .args .src .now)) (s .pre .0)) in
-    line-on (s .args .src .now) (s .args .at) (s .args .line) (at-front s) (c .line-length .result + 1) (used-is c ∙ ap lineBytes rest)
+    line-on (s .args .src .now) (s .args .at) (s .args .line) (here s) (c .line-length .result + 1) (used-is c ∙ ap lineBytes rest)
     (number-some tabletsKey 255 (drop (s .args .at) (s .args .src .now)) _ (ap (numberLine tabletsKey 255) (sym rest) ∙ count-is k))
 
 sub-number-line : tie.Need-sub-number-line
@@ -105,7 +104,7 @@ returns c =
     let fault = ap (numberLine tabletsKey 255) (sym (whole-text s)) ∙ sym (c .before .before .before .before .number-line .ensures) ∙ c .before .before .enum-told .given .1 in
     λ clocks held order full. halts (s .args .src .now) (s .args .at) _ begunStep (Refused FaultyLine) (s .args .at) (s .args .line) (c .halt .result) clocks held order said
     (ap (λ (line : ℕ). refused 12 line (nothingRead clocks held order)) (s .pre .1) ∙ sym (reading-faulty (s .args .src .now) clocks held order full fault))
-    (at-front s)
+    (here s)
 
 cast-open : tie.Need-cast-open
 cast-open c = omega (arith, value-limit tabletsKey 255 _ _ (count-is c))
@@ -136,7 +135,7 @@ returns-2 c =
     (ap (λ (number : ℕ). refused number (cond (eqb number 0) 0 (s .args .line)) (nothingRead clocks held order)) (opened-refused (k .before .n .given .0 .0) (o .result) (o .ensures) narrow)
     ∙ ap (λ (line : ℕ). refused 1 line (nothingRead clocks held order)) (s .pre .1)
     ∙ sym (reading-width (s .args .src .now) clocks held order full (k .before .n .given .0 .0) (count-is k) narrow))
-    (at-front s)
+    (here s)
 
 sub-line-length : tie.Need-sub-line-length
 sub-line-length c = search needs
