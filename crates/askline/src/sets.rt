@@ -1,8 +1,10 @@
 // The set of tablets that an ask line names, as a mask.
 use lines::lists::read_list;
+use model::Tablet;
 ghost use mathlib.Core.Path.{_≡_};
-ghost use Prim.Native.Nat.{_-_, _≤_};
+ghost use Prim.Native.Nat.{_≤_};
 ghost use lib.ListN.{take};
+ghost use Rattle.model.specs.Numbers.{column};
 ghost use Rattle.askline.specs.Sets.{bit, commas, unnamed, naming, namedSet};
 
 // The bit of each tablet, from tablet 1.
@@ -37,11 +39,11 @@ fn count_commas(text: &[u8]) -> usize
     found
 }
 
-fn bit_of(tablet: u8) -> u8
-    requires { ⌜ (1 ≤ tablet) × (tablet ≤ 8) ⌝ }
-    ensures { λ r. ⌜ r ≡ bit (tablet - 1) ⌝ }
+fn bit_of(tablet: Tablet) -> u8
+    requires { ⌜ (1 ≤ tablet .0) × (tablet .0 ≤ 8) ⌝ }
+    ensures { λ r. ⌜ r ≡ bit (column tablet) ⌝ }
 {
-    let own = (tablet - 1) as usize;
+    let own = (tablet.0 - 1) as usize;
     BITS[own]
 }
 
@@ -61,7 +63,7 @@ fn name_tablets(values: [u8; 8], count: usize) -> Named
         if 8 < tablet {
             return no_set();
         }
-        mask += bit_of(tablet);
+        mask += bit_of(Tablet(tablet));
         last = tablet;
         j += 1;
     }

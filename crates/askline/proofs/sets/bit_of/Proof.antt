@@ -16,7 +16,10 @@ array-read-result : tie.Need-array-read-result
 array-read-result c = search needs
 
 returns : tie.Need-returns
-returns c = let h : c .args .tablet - 1 < 8 = omega arith in bit-at (c .args .tablet - 1) h
+returns c =
+    let s = c .before in
+    let h : s .args .tablet .0 - 1 < 8 = omega arith in
+    bit-at (s .args .tablet .0 - 1) h
 
 pub bit-of-spec : {M : Type 1} → statement M
 bit-of-spec = tie.close (tie.spec sub-own cast-own array-read-result returns)
