@@ -2,14 +2,12 @@
 // word that a call says is document 01's refusal number, 0 for none, or a number from 200 on.
 use crate::book::Row;
 use crate::book::event_of;
-use crate::cells::Clocks;
-use crate::cells::Held;
-use crate::cells::Order;
 use crate::cells::low_byte;
 use crate::cells::low_word;
 use crate::cells::packed;
 use crate::cells::unpacked;
 use crate::cells::wide;
+use crate::moving::list_by_moving;
 use crate::second::AT_LEAST;
 use crate::second::Asking;
 use crate::second::EXACTLY;
@@ -112,11 +110,18 @@ pub(crate) struct Offered {
     pub record: Record,
 }
 
+pub(crate) fn unoffered(record: Record) -> Offered {
+    Offered {
+        word: NOTHING,
+        record,
+    }
+}
+
 pub(crate) fn call_accept(
     record: Record,
-    clocks: &mut Clocks,
-    held: &mut Held,
-    order: &mut Order,
+    clocks: &mut [u8],
+    held: &mut [u16],
+    order: &mut [u8],
     event: Row,
 ) -> Offered {
     let taken = store::accept(record, clocks, held, order, event_of(event));
@@ -159,6 +164,8 @@ pub(crate) const WRITE: u64 = 5;
 
 pub(crate) const CHECK: u64 = 6;
 
+pub(crate) const MOVE: u64 = 7;
+
 fn place_of(begun: bool, cut: u64) -> Place {
     let counts = unpacked(cut);
     Place {
@@ -195,6 +202,33 @@ fn call_list(
     let place = place_of(request.begun, request.cut);
     let position = Position(low_word(request.p));
     let listed = cuts::list(
+        record,
+        clocks,
+        held,
+        order,
+        position,
+        place,
+        &mut out[..length],
+    );
+    listed_said(listed)
+}
+
+// The same through a lent place.
+fn call_moving(
+    record: Record,
+    clocks: &[u8],
+    held: &[u16],
+    order: &[u8],
+    request: Request,
+    out: &mut [u8],
+) -> Said {
+    let length = request.length as usize;
+    if out.len() < length {
+        return nothing();
+    }
+    let place = place_of(request.begun, request.cut);
+    let position = Position(low_word(request.p));
+    let listed = list_by_moving(
         record,
         clocks,
         held,
@@ -291,6 +325,7 @@ pub(crate) fn call(
         COUNT => call_count(record, clocks, held, order, request),
         ASK => call_ask(record, clocks, held, order, request),
         WRITE => call_write(record, clocks, held, order, request, out),
+        MOVE => call_moving(record, clocks, held, order, request, out),
         _ => call_check(record, clocks, held, order),
     }
 }

@@ -1,6 +1,10 @@
 // The library's listing, counting, gathering and asking beside the second lister, cut by cut.
+use crate::book::OWN;
+use crate::book::OWN_COUNT;
 use crate::book::WRITTEN;
+use crate::book::WRITTEN_MOVING;
 use crate::book::listed;
+use crate::book::put_listed;
 use crate::calls::ASK;
 use crate::calls::COUNT;
 use crate::calls::DONE;
@@ -8,11 +12,13 @@ use crate::calls::FOUND;
 use crate::calls::GATHER;
 use crate::calls::LIST;
 use crate::calls::MORE;
+use crate::calls::MOVE;
 use crate::calls::NONE;
 use crate::calls::Request;
 use crate::calls::Said;
 use crate::cells::Book;
 use crate::cells::cell;
+use crate::cells::put;
 use crate::cells::wide;
 use crate::lend::STAYS;
 use crate::lend::ask_store;
@@ -21,6 +27,7 @@ use crate::notes::COUNTS;
 use crate::notes::CUTS;
 use crate::notes::GATHERED;
 use crate::notes::LISTINGS;
+use crate::notes::MOVING;
 use crate::notes::REST;
 use crate::notes::same;
 use crate::notes::same_word;
@@ -29,9 +36,25 @@ use crate::second::first_meeting;
 use std::num::wrapping_add_u64;
 use std::num::wrapping_sub_u64;
 
+// How many cuts the last listing said that it wrote.
+const LAST: u64 = 18525;
+
 // A byte that the last call wrote, or left.
 pub(crate) fn written(book: &Book, i: u64) -> u64 {
     cell(book, wrapping_add_u64(WRITTEN, i))
+}
+
+// How many bytes of the output, so far as it is looked at, are others than the listing through a lent place left in its own.
+fn unlike(book: &Book, to: u64) -> u64 {
+    let mut count: u64 = 0;
+    let mut i: u64 = 0;
+    while i < to {
+        if written(book, i) != cell(book, wrapping_add_u64(WRITTEN_MOVING, i)) {
+            count = wrapping_add_u64(count, 1);
+        }
+        i += 1;
+    }
+    count
 }
 
 // How many bytes of the output from one index up to another are not as they were before the call.
@@ -137,8 +160,48 @@ fn moved(book: &Book, plan: Plan, from: Stand, count: u64) -> Stand {
     }
 }
 
-fn number_of(b: bool) -> u64 {
+pub(crate) fn number_of(b: bool) -> u64 {
     if b { 1 } else { 0 }
+}
+
+// The request through a lent place: what is said, where the place then stands and each byte of the output are as `list` has them.
+fn compare_moving(book: &mut Book, request: Request, want: Said) {
+    let moving = Request {
+        call: MOVE,
+        p: request.p,
+        begun: request.begun,
+        cut: request.cut,
+        length: request.length,
+        asking: no_question(),
+    };
+    let got = ask_store(book, moving);
+    same(book, MOVING, want.word, got.word);
+    same(book, MOVING, want.number, got.number);
+    same(book, MOVING, number_of(want.begun), number_of(got.begun));
+    same(book, MOVING, want.cut, got.cut);
+    let bytes = unlike(book, wrapping_add_u64(request.length, 8));
+    same(book, MOVING, 0, bytes);
+}
+
+// A call on the store that is lent. A listing is made both ways.
+pub(crate) fn ask_library(book: &mut Book, request: Request) -> Said {
+    let said = ask_store(book, request);
+    if request.call == LIST {
+        compare_moving(book, request, said);
+    }
+    said
+}
+
+// The cuts that the library's last call wrote, behind those of the day that it listed before.
+fn keep_cuts(book: &mut Book, count: u64) {
+    let from = cell(book, OWN_COUNT);
+    let mut i: u64 = 0;
+    while i < count {
+        let cut = written_cut(book, i);
+        put_listed(book, OWN, wrapping_add_u64(from, i), cut);
+        i += 1;
+    }
+    put(book, OWN_COUNT, wrapping_add_u64(from, count));
 }
 
 fn same_place(book: &mut Book, want: Stand, got: Said) {
@@ -160,18 +223,20 @@ fn judge_listing(book: &mut Book, plan: Plan, from: Stand, got: Said) -> Stand {
 
 // One listing call: how many cuts it writes and which, what it says, which bytes stay, and where the place stands behind it.
 pub(crate) fn list_once(book: &mut Book, plan: Plan, from: Stand) -> Stand {
-    let got = ask_store(book, request_at(LIST, plan, from));
+    let got = ask_library(book, request_at(LIST, plan, from));
+    put(book, LAST, got.number);
     judge_listing(book, plan, from, got)
 }
 
 // Call after call from a place that is not begun, each from the place that the last one left, until the interval is done; and
-// one call more, when nothing remains.
+// one call more, when nothing remains. The cuts that the library wrote are kept.
 pub(crate) fn list_through(book: &mut Book, plan: Plan) {
     let mut stand = nowhere();
     let mut calls: u64 = 0;
     while calls < 65536 {
         let over = plan.total <= stand.seen;
         stand = list_once(book, plan, stand);
+        keep_cuts(book, fewer(cell(book, LAST), 64));
         if over {
             return;
         }
@@ -181,7 +246,7 @@ pub(crate) fn list_through(book: &mut Book, plan: Plan) {
 
 // A listing call that is refused: nothing is written, no byte and no place changes.
 pub(crate) fn list_refused(book: &mut Book, plan: Plan, from: Stand, number: u64) {
-    let got = ask_store(book, request_at(LIST, plan, from));
+    let got = ask_library(book, request_at(LIST, plan, from));
     same_word(book, LISTINGS, number, got.word);
     same(book, LISTINGS, 0, got.number);
     same_place(book, from, got);

@@ -4,6 +4,8 @@ use crate::book::Row;
 use crate::book::events;
 use crate::book::tablets;
 use crate::calls::CHECK;
+use crate::calls::GATHER;
+use crate::calls::LIST;
 use crate::calls::Request;
 use crate::calls::WHOLE;
 use crate::calls::WRITE;
@@ -12,7 +14,9 @@ use crate::cells::cell;
 use crate::cells::put;
 use crate::cells::wide;
 use crate::cells::wide_word;
+use crate::compare::ask_library;
 use crate::compare::compare_rest;
+use crate::compare::number_of;
 use crate::compare::request_asking;
 use crate::generate::draw;
 use crate::lend::CHANGED;
@@ -21,7 +25,6 @@ use crate::lend::LENT_EVENTS;
 use crate::lend::LENT_TABLETS;
 use crate::lend::SHORT;
 use crate::lend::accept_in_store;
-use crate::lend::ask_store;
 use crate::lend::lend_sound;
 use crate::lend::replayed;
 use crate::lend::slot_at;
@@ -50,17 +53,16 @@ fn faulty_request(call: u64, p: u64) -> Request {
     }
 }
 
-// A call that is refused by a number: it counts and writes nothing. A listing gives its place back, any other call zeros.
+// A call that is refused by a number: it counts and writes nothing. A listing gives the place back that it was given, any other
+// call zeros.
 fn refuse(book: &mut Book, request: Request, number: u64) {
-    let got = ask_store(book, request);
+    let got = ask_library(book, request);
+    let place = request.call == LIST;
+    let begun = place && request.begun;
     same_word(book, REFUSALS, number, got.word);
     same(book, REFUSALS, 0, got.number);
-    same(
-        book,
-        REFUSALS,
-        if got.begun { request.cut } else { 0 },
-        got.cut,
-    );
+    same(book, REFUSALS, number_of(begun), number_of(got.begun));
+    same(book, REFUSALS, if place { request.cut } else { 0 }, got.cut);
     compare_rest(book, 0, request.length);
 }
 
@@ -74,10 +76,8 @@ fn refuse_at(book: &mut Book, p: u64, number: u64) {
     refuse(book, faulty_request(WRITE, wrapping_add_u64(p, 1)), number);
 }
 
-// All calls on a store that is refused whatever is asked, and accepting, which leaves the record as given.
-fn refuse_store(book: &mut Book, number: u64) {
-    refuse_at(book, 9999, number);
-    refuse(book, faulty_request(CHECK, 0), number);
+// Accepting an event of tablet 0: refused, with the record as given.
+fn refuse_event(book: &mut Book, number: u64) {
     let event = Row {
         tablet: 0,
         clock: 0,
@@ -100,6 +100,13 @@ fn refuse_store(book: &mut Book, number: u64) {
     );
 }
 
+// All calls on a store that is refused whatever is asked.
+fn refuse_store(book: &mut Book, number: u64) {
+    refuse_at(book, 9999, number);
+    refuse(book, faulty_request(CHECK, 0), number);
+    refuse_event(book, number);
+}
+
 // One thing wrong with the store that is lent; then it is sound again.
 fn refuse_with(book: &mut Book, what: u64, v: u64, number: u64) {
     put(book, what, v);
@@ -107,14 +114,16 @@ fn refuse_with(book: &mut Book, what: u64, v: u64, number: u64) {
     lend_sound(book);
 }
 
-// Each buffer one short of document 01's size; at just that size it is the position that is refused.
+// Each buffer one short of document 01's size. At just that size the store passes, and it is the position and the event that
+// are refused.
 fn refuse_short(book: &mut Book) {
-    let mut short: u64 = 1;
-    while short < 5 {
-        put(book, SHORT, short);
-        refuse_at(book, 9999, if short < 4 { 2 } else { 9 });
-        short += 1;
-    }
+    refuse_with(book, SHORT, 1, 2);
+    refuse_with(book, SHORT, 2, 2);
+    refuse_with(book, SHORT, 3, 2);
+    put(book, SHORT, 4);
+    refuse_at(book, 9999, 9);
+    refuse(book, faulty_request(CHECK, 0), 0);
+    refuse_event(book, 4);
     lend_sound(book);
 }
 
@@ -133,10 +142,16 @@ fn refuse_set(book: &mut Book, p: u64, set: u64) {
     refuse(book, request_asking(set_of(set), p), 13);
 }
 
+// An output that takes no cut, lent for gathering.
+fn refuse_gathering(book: &mut Book) {
+    refuse(book, faulty_request(GATHER, events(book)), 14);
+}
+
 // Positions above T; the empty set, and one that names the tablet behind the last, of an interval and of the whole trace.
 pub(crate) fn refuse_questions(book: &mut Book) {
     lend_sound(book);
     refuse_at(book, wrapping_add_u64(events(book), 1), 9);
+    refuse_gathering(book);
     refuse_set(book, 0, 0);
     refuse_set(book, WHOLE, 0);
     let beyond = sets(tablets(book));

@@ -5,6 +5,9 @@ use lib.ListN.{length, length-take}
 use Rattle.vectors.proofs.lend.call_short.Statement.{statement}
 use Rattle.vectors.proofs.lend.call_short.Tie as tie
 
+sizes-requires : tie.Need-sizes-requires
+sizes-requires c κs = search needs
+
 nothing-requires : tie.Need-nothing-requires
 nothing-requires c κs = search needs
 
@@ -42,6 +45,7 @@ pub call-short-spec : {M : Type 1} → statement M
 call-short-spec =
     tie.close
     (tie.spec
+    sizes-requires
     nothing-requires
     returns
     nothing-requires-2
