@@ -1,4 +1,5 @@
-// The library's listing, counting, gathering and asking beside the second lister, cut by cut.
+// The library's listing, counting, gathering and asking beside the second lister, cut by cut; and its listing through a lent
+// place beside that by value.
 use crate::book::OWN;
 use crate::book::OWN_COUNT;
 use crate::book::WRITTEN;
@@ -36,15 +37,17 @@ use crate::second::first_meeting;
 use std::num::wrapping_add_u64;
 use std::num::wrapping_sub_u64;
 
-// How many cuts the last listing said that it wrote.
+// How many cuts the last listing said that it wrote; and the most that any output lent to a listing takes.
 const LAST: u64 = 18525;
+
+const MOST_CUTS: u64 = 64;
 
 // A byte that the last call wrote, or left.
 pub(crate) fn written(book: &Book, i: u64) -> u64 {
     cell(book, wrapping_add_u64(WRITTEN, i))
 }
 
-// How many bytes of the output, so far as it is looked at, are others than the listing through a lent place left in its own.
+// How many of the output's first bytes are others than those that the listing through a lent place left in its output.
 fn unlike(book: &Book, to: u64) -> u64 {
     let mut count: u64 = 0;
     let mut i: u64 = 0;
@@ -236,7 +239,7 @@ pub(crate) fn list_through(book: &mut Book, plan: Plan) {
     while calls < 65536 {
         let over = plan.total <= stand.seen;
         stand = list_once(book, plan, stand);
-        keep_cuts(book, fewer(cell(book, LAST), 64));
+        keep_cuts(book, fewer(cell(book, LAST), MOST_CUTS));
         if over {
             return;
         }

@@ -173,7 +173,7 @@ fn keep_written(book: &mut Book, out: &Output, length: u64, at: u64) {
     }
 }
 
-// How many cells of each buffer are lent.
+// How many cells of each buffer are lent, as `SHORT` says.
 struct Lent {
     clocks: usize,
     held: usize,
@@ -195,7 +195,7 @@ fn sizes(short: u64) -> Lent {
     }
 }
 
-fn call_short(
+fn call_front(
     record: Record,
     clocks: &[u8],
     held: &[u16],
@@ -237,7 +237,7 @@ fn call_lent(
 ) -> Said {
     let record = lent_record(book);
     let short = cell(book, SHORT);
-    call_short(record, clocks, held, order, short, request, out)
+    call_front(record, clocks, held, order, short, request, out)
 }
 
 // Where the book keeps what a call wrote.
@@ -348,7 +348,7 @@ fn accept_part(
     accept_front(record, clocks, held, order, short, event)
 }
 
-// Whether the buffers are compared behind an offer: always where one was too short, and now and then else, since it takes the
+// Whether the buffers are compared behind an offer: always where `SHORT` cuts them, and now and then else, since it takes the
 // most time of all. Where a byte was changed they are not what the day has.
 fn looked_up(book: &mut Book) -> bool {
     if cell(book, CHANGED) != 0 {

@@ -1,4 +1,5 @@
-// The listing through a lent place, called as one by value.
+// The listing through a lent place, called as one by value. A function that lends a struct of its own is proved by hand, so this
+// one does nothing else; what it promises is what `list` does.
 use cuts::Listed;
 use model::Place;
 use model::Position;
