@@ -1,9 +1,10 @@
 -- The ways through counting and asking, each as its outcome.
 use mathlib.Core.Path.{_≡_, refl, sym, ap, ap₂, _∙_}
 use mathlib.Core.Bool.{Bool, true, false, cond, not, false≢true}
-use mathlib.Core.List.{List}
+use mathlib.Core.List.{List, []}
 use Prim.Native.Nat.{ℕ, _≤_, _<_}
-use borrow.Author.Tests.{lt-ltb, le-ltb, le-leb, lt-leb}
+use borrow.Author.Tests.{lt-ltb, le-ltb, le-leb, lt-leb, leb-true, leb-false}
+use lib.Dec.{leb}
 use lib.ListN.{length}
 use Rattle.model.specs.declared.Record.{Record}
 use Rattle.model.specs.declared.Position.{Position}
@@ -17,7 +18,7 @@ use Rattle.store.proofs.Outcomes.{when-zero, when-some}
 use Rattle.walks.specs.Counting.{fits64, CountedTo}
 use Rattle.steps.specs.Spans.{IntervalSpan, TraceSpan}
 use Rattle.walks.specs.Finding.{AskedOf}
-use Rattle.cuts.specs.Outcomes.{SoundTrace, CountOutcome, countIn, counting, AskOutcome, refusedAsking, rangeKnown, questionFits, RangeRead, askIn, asking}
+use Rattle.cuts.specs.Outcomes.{SoundTrace, CountOutcome, countIn, counting, AskOutcome, refusedAsking, rangeKnown, questionFits, RangeRead, IntervalRead, askIn, asking}
 use Rattle.steps.proofs.Bounding.{interval-cuts, trace-cuts, interval-span, trace-span}
 
 -- counting
@@ -87,6 +88,28 @@ module _ (r : Record) (clocks order : List ℕ) where
           span = λ yes-known. trace-span sound (trace .none) low high (bounds .low-is) (bounds .high-is);
           cuts = λ yes-known held. trace-cuts (storeOf r clocks held order) low high (bounds .low-is) (bounds .high-is);
         }
+
+  -- the interval of a position
+  pub interval-outside : (p : Position) (known : Bool) (low high : List ℕ) → r .events < p .0 → known ≡ false → IntervalRead r clocks order p known low high
+  interval-outside p known low high outside unknown =
+      record {
+        read = read-outside p known low high outside unknown;
+        bounds = λ yes-known. absurd (false≢true (sym unknown ∙ yes-known));
+      }
+
+  pub interval-inside : SoundTrace r clocks order → (p : Position) (low high : List ℕ) → p .0 ≤ r .events → IntervalSpan clocks order (p .0) low high → IntervalRead r clocks order p true low high
+  interval-inside trace p low high inside bounds =
+      record { read = read-interval trace p low high inside bounds; bounds = λ yes-known. bounds }
+
+  module _ {p : Position} {known : Bool} {low high : List ℕ} (told : IntervalRead r clocks order p known low high) where
+    known-is : known ≡ leb (p .0) (r .events)
+    known-is = told .read .known-is []
+
+    pub position-known : known ≡ true → p .0 ≤ r .events
+    position-known yes-known = leb-true (p .0) (r .events) (sym known-is ∙ yes-known)
+
+    pub position-unknown : known ≡ false → r .events < p .0
+    position-unknown unknown = leb-false (p .0) (r .events) (sym known-is ∙ unknown)
 
 -- asking
 module _ (s : Store) (job : Job) where

@@ -18,7 +18,8 @@ use Rattle.cuts.specs.declared.Listed.{Listed}
 use Rattle.cuts.specs.declared.Moved.{Moved}
 use Rattle.cuts.specs.declared.Gathered.{Gathered}
 use Rattle.cuts.specs.Outcomes.{CountOutcome, counted, countIn, counting, AskOutcome, answerNumber, answerFound, asked, askIn, asking}
-use Rattle.cuts.specs.Listing.{Said, done, more, nothing, ListOutcome, listingNumber, listingSaid, listed, moved, listing, GatherOutcome, gathered, gathering}
+use Rattle.cuts.specs.Listing.{Said, done, more, nothing, ListOutcome, listingNumber, listingSaid, listed, moved, listing}
+use Rattle.cuts.specs.Gathering.{GatherOutcome, gathered, gathering}
 
 -- counting
 counted-unique : (c d : Counted) → counted c ≡ counted d → c ≡ d
@@ -89,10 +90,16 @@ list-moving-unique s p place out a b after behind first second m n =
       ap (λ (o : ListOutcome). o .output) same,
     )
 
-pub gather-unique : (s : Store) (p : ℕ) (out : List ℕ) (a b : Gathered) (first second : List ℕ) → gathered a first ≡ gathering s p out → gathered b second ≡ gathering s p out → (a ≡ b) × (first ≡ second)
-gather-unique s p out a b first second m n =
-    let same : gathered a first ≡ gathered b second = m ∙ sym n in
-    let answers = listing-unique (a .answer) (b .answer) (ap (λ (o : GatherOutcome). o .refusal) same) (ap (λ (o : GatherOutcome). spoken (o .said)) same) in (
-      (λ i. record { answer = answers i; written = ap (λ (o : GatherOutcome). o .count) same i }),
-      ap (λ (o : GatherOutcome). o .output) same,
+pub gather-unique : (s : Store) (first last : ℕ) (out : List ℕ) (a b : Gathered) (one two : List ℕ) → gathered a one ≡ gathering s first last out → gathered b two ≡ gathering s first last out → (a ≡ b) × (one ≡ two)
+gather-unique s first last out a b one two m n =
+    let same : gathered a one ≡ gathered b two = m ∙ sym n in
+    let listings : gathered a one .listing ≡ gathered b two .listing = ap (λ (o : GatherOutcome). o .listing) same in
+    let answers = listing-unique (a .answer) (b .answer) (ap (λ (o : ListOutcome). o .refusal) listings) (ap (λ (o : ListOutcome). spoken (o .said)) listings) in (
+      (λ i. record {
+        answer = answers i;
+        written = ap (λ (o : ListOutcome). o .count) listings i;
+        position = record { 0 = ap (λ (o : GatherOutcome). o .position) same i };
+        place = ap (λ (o : ListOutcome). o .place) listings i;
+      }),
+      ap (λ (o : ListOutcome). o .output) listings,
     )

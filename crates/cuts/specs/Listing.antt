@@ -17,7 +17,6 @@ use Rattle.cuts.specs.declared.Listing.{Listing}
 use Rattle.cuts.specs.declared.Listing.the-variants.{Done, More, Refused}
 use Rattle.cuts.specs.declared.Listed.{Listed}
 use Rattle.cuts.specs.declared.Moved.{Moved}
-use Rattle.cuts.specs.declared.Gathered.{Gathered}
 
 -- what is said of a listing; with a refusal nothing is
 pub data Said : Type 0 where
@@ -101,26 +100,6 @@ abbrev pub listing : Store → ℕ → Place → List ℕ → ListOutcome
 listing s p place out =
     cond (eqb (storeRefusal s) 0) (listIn s p place out) (refusedListing (storeRefusal s) place out)
 
--- "To gather a long list, the caller lends the part of its buffer behind the cuts already written." The whole of it: the
--- interval's first cuts, all that fit, the rest of the output as it was, and whether all are there.
-pub record GatherOutcome : Type 0 where
-  pub refusal : ℕ
-  pub said : Said
-  pub count : ℕ
-  pub output : List ℕ
-
-abbrev pub gathered : Gathered → List ℕ → GatherOutcome
-gathered r output = record { refusal = listingNumber (r .answer); said = listingSaid (r .answer); count = r .written; output = output }
-
 -- a place not begun
 abbrev pub fresh : Place
 fresh = record { begun = false; cut = record { counts = zeros } }
-
-abbrev pub gathering : Store → ℕ → List ℕ → GatherOutcome
-gathering s p out =
-    record {
-      refusal = listing s p fresh out .refusal;
-      said = listing s p fresh out .said;
-      count = listing s p fresh out .count;
-      output = listing s p fresh out .output;
-    }

@@ -8,6 +8,7 @@ use lib.ListN.{length}
 use Rattle.model.specs.declared.Record.{Record}
 use Rattle.model.specs.declared.Range.{Range}
 use Rattle.model.specs.declared.Range.the-variants.{Interval, Whole}
+use Rattle.model.specs.declared.Position.{Position}
 use Rattle.model.specs.declared.Job.{Job}
 use Rattle.model.specs.Lists.{zeros}
 use Rattle.model.specs.Refusals.{numberOf, verdictNumber}
@@ -16,6 +17,7 @@ use Rattle.model.specs.Clocks.{clockAt}
 use Rattle.model.specs.Cuts.{cutsBetween, interval, cutsIn}
 use Rattle.model.specs.Questions.{answer}
 use Rattle.steps.specs.Walk.{Span}
+use Rattle.steps.specs.Spans.{IntervalSpan}
 pub use Rattle.questions.specs.Holdings.{questionFits}
 pub use Rattle.walks.specs.Counting.{fits64}
 use Rattle.cuts.specs.declared.Counted.{Counted}
@@ -80,6 +82,11 @@ pub record RangeRead (r : Record) (clocks order : List ℕ) (range : Range) (kno
   pub known-is : (held : List ℕ) → known ≡ rangeKnown (storeOf r clocks held order) range
   pub span : known ≡ true → Span (r .tablets) clocks low high
   pub cuts : known ≡ true → (held : List ℕ) → cutsBetween (clockAt clocks) low high ≡ cutsIn (storeOf r clocks held order) range
+
+-- the same of the interval of a position, with its bounds by name, Gmin and Gbnd: a listing tests its place's cut by them
+pub record IntervalRead (r : Record) (clocks order : List ℕ) (position : Position) (known : Bool) (low high : List ℕ) : Type 0 where
+  pub read : RangeRead r clocks order (Interval position) known low high
+  pub bounds : known ≡ true → IntervalSpan clocks order (position .0) low high
 
 -- of a sound store: "asking 9, 13"
 abbrev pub askIn : Store → Job → AskOutcome

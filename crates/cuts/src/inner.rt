@@ -3,6 +3,7 @@
 use crate::Answer;
 use crate::Asked;
 use crate::Counted;
+use crate::ranges::interval_range;
 use crate::ranges::range_span;
 use model::Cut;
 use model::Job;
@@ -11,7 +12,6 @@ use model::Record;
 use model::Refusal;
 use model::Verdict;
 use questions::question_fits;
-use steps::spans::interval_span;
 use walks::counting::count_span;
 use walks::finding::first_meeting;
 ghost use mathlib.Core.Path.{_≡_};
@@ -25,14 +25,14 @@ pub fn count_interval(record: Record, clocks: &[u8], order: &[u8], position: Pos
     requires { ⌜ SoundTrace «record» (now clocks) (now order) ⌝ }
     ensures { λ r. ⌜ ((held : List ℕ) → counted r ≡ countIn (storeOf «record» (now (clocks .entry)) held (now (order .entry))) (position .0)) ⌝ }
 {
-    let p = position.0;
-    if record.events < p {
+    let ranged = interval_range(record, clocks, order, position);
+    if !ranged.known {
         return Counted {
             verdict: Verdict::Refused(Refusal::NoSuchPosition),
             count: 0,
         };
     }
-    let span = interval_span(clocks, order, p as usize);
+    let span = ranged.span;
     let tally = count_span(record.tablets as usize, clocks, span);
     if tally.fits {
         return Counted {

@@ -1,10 +1,13 @@
 // Consistent cuts of a stored trace: listing, counting, asking, gathering.
 // Each public call tests the store before all else and refuses by document 01's number; what it answers is fixed by its
 // contract for all inputs.
+mod gatherer;
 pub mod inner;
 mod lister;
 mod ranges;
 
+use gatherer::gather_intervals;
+use gatherer::refused_gathering;
 use inner::answer_job;
 use inner::count_interval;
 use inner::refused_asking;
@@ -19,7 +22,8 @@ use model::Refusal;
 use model::Verdict;
 ghost use mathlib.Core.Path.{_≡_};
 ghost use Rattle.model.specs.Store.{storeOf};
-ghost use Rattle.cuts.specs.Listing.{listed, listing, moved, gathered, gathering};
+ghost use Rattle.cuts.specs.Listing.{listed, listing, moved};
+ghost use Rattle.cuts.specs.Gathering.{gathered, gathering};
 ghost use Rattle.cuts.specs.Outcomes.{counted, counting, asked, asking};
 
 // The number of cuts, or a refusal with 0.
@@ -128,48 +132,31 @@ pub fn list_moving(
     }
 }
 
-// What a gathering answers: whether all cuts of the interval are there, and how many are.
+// What a gathering answers: whether all cuts of the intervals are there, how many are, and where it stopped: the interval of
+// the last cut written and the place behind that cut, from which `list` goes on.
 pub struct Gathered {
     pub answer: Listing,
     pub written: usize,
+    pub position: Position,
+    pub place: Place,
 }
 
-// The first cuts of an interval, all that fit, by one listing call after another, each lent the part of the output behind
-// the cuts already written.
+// The cuts of interval after interval, from a first position to a last, all that fit. Each interval is listed into the part of
+// the output behind the cuts already written.
 pub fn gather(
     record: Record,
     clocks: &[u8],
     held: &[u16],
     order: &[u8],
-    position: Position,
+    first: Position,
+    last: Position,
     out: &mut [u8],
 ) -> Gathered
-    ensures { λ r. ⌜ gathered r (now (out .exit)) ≡ gathering (storeOf «record» (now (clocks .entry)) (now (held .entry)) (now (order .entry))) (position .0) (now (out .entry)) ⌝ }
+    ensures { λ r. ⌜ gathered r (now (out .exit)) ≡ gathering (storeOf «record» (now (clocks .entry)) (now (held .entry)) (now (order .entry))) (first .0) (last .0) (now (out .entry)) ⌝ }
 {
-    let mut place = Place {
-        begun: false,
-        cut: Cut { counts: [0u8; 8] },
-    };
-    let mut written: usize = 0;
-    loop {
-        let from = 8 * written;
-        let part = list(
-            record,
-            clocks,
-            held,
-            order,
-            position,
-            place,
-            &mut out[from..],
-        );
-        written += part.written;
-        place = part.place;
-        let answer = part.answer;
-        let Listing::More = answer else {
-            return Gathered { answer, written };
-        };
-        if out.len() - 8 * written < 8 {
-            return Gathered { answer, written };
-        }
+    let v = store::check(record, clocks, held, order);
+    match v {
+        Verdict::Refused(why) => refused_gathering(why),
+        Verdict::Passed => gather_intervals(record, clocks, order, first, last, out),
     }
 }

@@ -1,6 +1,7 @@
 // Writing the cuts that stand behind a place into a lent output.
 use crate::Listed;
 use crate::Listing;
+use crate::ranges::interval_range;
 use model::Cut;
 use model::Place;
 use model::Position;
@@ -9,7 +10,6 @@ use model::Refusal;
 use steps::inside::in_span;
 use steps::lex::next_cut;
 use steps::spans::Span;
-use steps::spans::interval_span;
 use walks::showing::Shown;
 use walks::showing::show;
 ghost use mathlib.Core.Path.{_≡_};
@@ -92,13 +92,13 @@ pub(crate) fn list_interval(
     requires { ⌜ SoundTrace «record» (now clocks) (now order) ⌝ }
     ensures { λ r. ⌜ ((held : List ℕ) → listed r (now (out .exit)) ≡ listIn (storeOf «record» (now (clocks .entry)) held (now (order .entry))) (position .0) place (now (out .entry))) ⌝ }
 {
-    let p = position.0;
-    if record.events < p {
+    let ranged = interval_range(record, clocks, order, position);
+    if !ranged.known {
         return refused_listing(Refusal::NoSuchPosition, place);
     }
     if out.len() < 8 {
         return refused_listing(Refusal::ShortOutput, place);
     }
-    let span = interval_span(clocks, order, p as usize);
+    let span = ranged.span;
     list_span(record.tablets as usize, clocks, span, place, out)
 }

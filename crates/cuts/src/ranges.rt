@@ -1,13 +1,15 @@
-// The range that a question is put to.
+// The range that a question is put to, and the one place where an interval's bounds are read.
 use model::Cut;
+use model::Position;
 use model::Range;
 use model::Record;
 use steps::spans::Span;
 use steps::spans::interval_span;
+use steps::spans::tallies_after;
 use steps::spans::trace_span;
 ghost use mathlib.Core.Path.{_≡_};
 ghost use mathlib.Core.Bool.{false};
-ghost use Rattle.cuts.specs.Outcomes.{SoundTrace, RangeRead};
+ghost use Rattle.cuts.specs.Outcomes.{SoundTrace, RangeRead, IntervalRead};
 
 // Not known where its position is above T.
 pub(crate) struct Ranged {
@@ -20,19 +22,31 @@ pub(crate) fn range_span(record: Record, clocks: &[u8], order: &[u8], range: Ran
     ensures { λ r. ⌜ RangeRead «record» (now (clocks .entry)) (now (order .entry)) range (r .known) (r .span .low .counts) (r .span .high .counts) ⌝ }
 {
     match range {
-        Range::Interval(position) => {
-            let p = position.0;
-            if record.events < p {
-                return unknown_range();
-            }
-            let span = interval_span(clocks, order, p as usize);
-            Ranged { known: true, span }
-        }
+        Range::Interval(position) => interval_range(record, clocks, order, position),
         Range::Whole => {
-            let span = trace_span(order, record.events as usize);
+            let span = trace_span(order, record.events);
             Ranged { known: true, span }
         }
     }
+}
+
+// The interval of a position up to T, from its Gmin to the tallies after it.
+pub(crate) fn interval_range(
+    record: Record,
+    clocks: &[u8],
+    order: &[u8],
+    position: Position,
+) -> Ranged
+    requires { ⌜ SoundTrace «record» (now clocks) (now order) ⌝ }
+    ensures { λ r. ⌜ IntervalRead «record» (now (clocks .entry)) (now (order .entry)) position (r .known) (r .span .low .counts) (r .span .high .counts) ⌝ }
+{
+    let last = record.events;
+    if last < position.0 {
+        return unknown_range();
+    }
+    let counts = tallies_after(order, position);
+    let span = interval_span(clocks, order, position, counts);
+    Ranged { known: true, span }
 }
 
 fn unknown_range() -> Ranged

@@ -131,7 +131,7 @@ module _ (line rest : List ℕ) (lacks : find 10 line ≡ length line) where
 
 -- a line that is not empty was ended by its LF, and the text is that line, the LF, and the rest
 module _ (text : List ℕ) (some : 1 ≤ length (firstLine text)) where
-  ended : find 10 text < length text
+  pub ended : find 10 text < length text
   unfolding lineLength
   ended =
       by-cases (decLt (find 10 text) (length text)) (λ h. h)
@@ -139,7 +139,7 @@ module _ (text : List ℕ) (some : 1 ≤ length (firstLine text)) where
       let empty : length (take (lineLength text) text) ≡ 0 = ap (λ (m : ℕ). length (take m text)) none in
       omega arith)
 
-  whole-line : lineLength text ≡ find 10 text
+  pub whole-line : lineLength text ≡ find 10 text
   unfolding lineLength
   whole-line = ap (λ (t : Bool). cond t (find 10 text) 0) (lt-ltb (find 10 text) (length text) ended)
 

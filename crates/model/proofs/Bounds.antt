@@ -10,6 +10,7 @@ use Rattle.model.specs.Clocks.{Clocks, covered}
 use Rattle.model.specs.Follow.{eventAt}
 use Rattle.model.specs.Store.{Store, clocksOf, talliesOf}
 use Rattle.model.specs.Cuts.{consistent, box, cutsBetween, gmin, gbnd, allCuts}
+pub use Rattle.model.specs.Ranges.{Bounds}
 use Rattle.model.proofs.Entries.{at-zeros, zeros-at-most, zeros-covered}
 use Rattle.model.proofs.Lists.{keep-same}
 use Rattle.model.proofs.Ranges.{known-at-most, Consistent}
@@ -17,12 +18,6 @@ use Rattle.model.proofs.Causal.{Causal, clock-consistent}
 use Rattle.model.proofs.Valid.{length-tallies}
 use Rattle.model.proofs.Slots.{clock-long}
 use Rattle.model.proofs.Sound.{Sound, Full, causal-at, event-contained, stored-at}
-
--- a range between two consistent cuts
-pub record Bounds (clk : Clocks) (low high : List ℕ) : Type 0 where
-  pub long : length high ≡ 8
-  pub causal : Causal clk high
-  pub bottom : Consistent clk high low
 
 -- the empty cut is consistent
 pub zeros-consistent : (clk : Clocks) (high : List ℕ) → Consistent clk high zeros

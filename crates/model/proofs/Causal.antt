@@ -8,20 +8,9 @@ use native.Mathlib.Decide.{ℕ-discrete}
 use Rattle.model.specs.Lists.{at}
 use Rattle.model.specs.Clocks.{Clocks, EventName, clockOf}
 use Rattle.model.specs.Cuts.{Contains}
+pub use Rattle.model.specs.Ranges.{Causal}
 use Rattle.model.proofs.Entries.{AtMost, at-most-refl, at-most-trans}
 use Rattle.model.proofs.Ranges.{known-event, known-at-most, Consistent}
-
-pub record Causal (clk : Clocks) (tal : List ℕ) : Type 0 where
-  -- an event's own entry is its number
-  pub own : (e : EventName) → Contains tal e → at (clockOf clk e) (e .column) ≡ e .number
-  -- it knows what the event before it on its tablet knew
-  pub next : (j k : ℕ) → j < 8 → 1 ≤ k → k < at tal j → AtMost (clk j k) (clk j (suc k))
-  -- it knows what the events that its clock names knew
-  pub told : (e : EventName) → Contains tal e → (i : ℕ) → i < 8 → i ≢ e .column → 1 ≤ at (clockOf clk e) i → AtMost (clk i (at (clockOf clk e) i)) (clockOf clk e)
-  -- it knows only events of the trace
-  pub within : (e : EventName) → Contains tal e → AtMost (clockOf clk e) tal
-  -- the events that its clock names do not know it
-  pub fresh : (e : EventName) → Contains tal e → (i : ℕ) → i < 8 → i ≢ e .column → 1 ≤ at (clockOf clk e) i → at (clk i (at (clockOf clk e) i)) (e .column) < e .number
 
 abbrev pub event : ℕ → ℕ → EventName
 event j k = record { column = j; number = k }

@@ -9,11 +9,8 @@ use lib.ListN.{length}
 use lib.Seq.{ext-getD}
 use Rattle.model.specs.Lists.{at, eight, zeros}
 use Rattle.model.specs.Clocks.{covered}
+pub use Rattle.model.specs.Ranges.{AtMost}
 use Rattle.model.proofs.Tests.{allBelow-at, allBelow-all, holds}
-
--- U is at most W in each entry
-abbrev pub AtMost : List ℕ → List ℕ → Type 0
-AtMost U W = (j : ℕ) → j < 8 → at U j ≤ at W j
 
 pub covered-at-most : (U W : List ℕ) → T (covered U W) → AtMost U W
 unfolding covered

@@ -1,4 +1,5 @@
 pub mod Tests
+pub mod Columns
 pub mod Entries
 pub mod Lists
 pub mod Lexical

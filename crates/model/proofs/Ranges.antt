@@ -9,6 +9,7 @@ use lib.ListN.{length}
 use Rattle.model.specs.Lists.{at}
 use Rattle.model.specs.Clocks.{Clocks, covered, known}
 use Rattle.model.specs.Cuts.{closed, consistent, box, cutsBetween}
+pub use Rattle.model.specs.Ranges.{Closed, Consistent, InRange}
 use Rattle.model.specs.Lexical.{Rising}
 use Rattle.model.proofs.Tests.{and-left, and-right, and-both, allBelow-at, allBelow-all}
 use Rattle.model.proofs.Entries.{AtMost, covered-at-most, at-most-covered, zeros-at-most}
@@ -25,14 +26,6 @@ pub known-at-most : (clk : Clocks) (j k : ℕ) (W : List ℕ) → (1 ≤ k → A
 known-at-most clk j zero W f = zeros-at-most W
 known-at-most clk j (suc k) W f = f (omega arith)
 
--- "the clock of event G[i] of tablet i is at most G in each entry"
-abbrev pub Closed : Clocks → List ℕ → Type 0
-Closed clk G = (j : ℕ) → j < 8 → AtMost (known clk j (at G j)) G
-
-pub record Consistent (clk : Clocks) (tal G : List ℕ) : Type 0 where
-  pub most : AtMost G tal
-  pub known-in : Closed clk G
-
 pub consistent-holds : (clk : Clocks) (tal G : List ℕ) → T (consistent clk tal G) → Consistent clk tal G
 unfolding consistent closed
 consistent-holds clk tal G t =
@@ -48,12 +41,6 @@ holds-consistent clk tal G c =
     and-both (covered G tal) (closed clk G) (at-most-covered G tal (c .most))
     (allBelow-all 8 (λ j. covered (known clk j (at G j)) G)
     (λ j h. at-most-covered (known clk j (at G j)) G (c .known-in j h)))
-
--- a cut of a range: eight entries, between the bounds, consistent
-pub record InRange (clk : Clocks) (low high G : List ℕ) : Type 0 where
-  pub long : length G ≡ 8
-  pub least : AtMost low G
-  pub cut : Consistent clk high G
 
 module _ (clk : Clocks) (low high : List ℕ) where
   inside : List ℕ → Bool

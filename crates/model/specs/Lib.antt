@@ -8,6 +8,7 @@ pub mod Clocks
 pub mod Follow
 pub mod Store
 pub mod Cuts
+pub mod Ranges
 pub mod Agree
 pub mod Lexical
 pub mod Happened

@@ -1,13 +1,21 @@
 // The values that every call of the library takes and gives. What they mean is defined in specs/.
 
-// A tablet's number, from 1.
+// Three counts that are never exchanged, and a fourth that looks like the third.
+
+// A tablet's number, from 1. 0 and numbers above n stand in it only as they are offered, in an event that is then refused, or
+// in a store that is then found not valid.
 pub struct Tablet(pub u8);
 
-// An event's number on its tablet, from 1.
+// An event's number on its tablet, from 1. Where the last event of a tablet is meant, 0 says that there is none yet.
 pub struct EventNumber(pub u8);
 
-// A position in the trace, from 1 in order of acceptance. Where an interval is meant, 0 is the interval of the empty cut.
+// A position in the trace, from 1 in order of acceptance. Where an interval is meant, 0 is the interval of the empty cut; where
+// the events up to a position are meant, 0 is before the first.
 pub struct Position(pub u16);
+
+// A piece of the text of a store: 0 is the `tablets` line, 1 to T the lines of the event at that position, T + 1 the `events`
+// line. So it is no position: its first and its last are no event's.
+pub struct PieceNumber(pub u16);
 
 // A cut: for each of eight tablets, how many of its events have happened. Entries above the number of tablets are zero.
 pub struct Cut {

@@ -3,7 +3,7 @@ use mathlib.Core.Path.{_≡_, refl, sym, ap, ap₂, _∙_}
 use mathlib.Core.Logic.{_≢_}
 use mathlib.Core.Bool.{Bool, true, false, cond, _&&_}
 use mathlib.Core.List.{List}
-use Prim.Native.Nat.{ℕ, zero, suc, _+_, _/_, _%_, _≤_}
+use Prim.Native.Nat.{ℕ, zero, suc, _+_, _-_, _/_, _%_, _≤_, _<_}
 use native.Mathlib.Omega.{arith}
 use native.Mathlib.Numerals.{add-one}
 use borrow.Author.Tests.{eq-eqb, ne-eqb, le-leb, lt-leb}
@@ -13,6 +13,8 @@ use Rattle.model.specs.Lists.{at, allBelow, sumBelow}
 use Rattle.model.specs.Numbers.{slot}
 use Rattle.model.specs.Store.{Store}
 use Rattle.model.specs.Questions.{holding, names, setFits}
+use Rattle.model.proofs.Columns.{column-of-next}
+use Rattle.questions.specs.Holdings.{ForHeld, HeldReady, HoldingOf}
 
 -- a tablet's holding
 pub holds-nothing : (s : Store) (G : List ℕ) (j : ℕ) → at G j ≡ 0 → 0 ≡ holding s G j
@@ -25,6 +27,13 @@ holds-stored s held G j home same some there =
     let differ : at G j ≢ 0 = omega arith in
     ap₂ (λ (l : List ℕ) (h : ℕ). getD l h 0) (sym same) there
     ∙ sym (ap (λ (b : Bool). cond b 0 (getD (s .held) (slot j (at G j)) 0)) (ne-eqb (at G j) 0 differ))
+
+-- in a loop over columns, what is asked and answered of the tablet with the number j + 1
+pub next-ready : (held counts : List ℕ) (j : ℕ) → j < 8 → HeldReady held counts 0 → HeldReady held counts (j + 1 - 1)
+next-ready held counts j h ready = record { full = ready .full; stored = ready .stored; column = omega arith }
+
+pub next-holding : (held counts : List ℕ) (j value : ℕ) → HoldingOf held counts (j + 1 - 1) value → ForHeld held (λ s. value ≡ holding s counts j)
+next-holding held counts j value of s e = of .value-is s e ∙ ap (holding s counts) (column-of-next j)
 
 pub sum-more : (j : ℕ) (f : ℕ → ℕ) (sum value : ℕ) → sum ≡ sumBelow j f → value ≡ f j → sum + value ≡ sumBelow (j + 1) f
 sum-more j f sum value so-far here = ap₂ _+_ so-far here ∙ ap (λ (m : ℕ). sumBelow m f) (sym (add-one j))

@@ -1,5 +1,6 @@
 // Named sets of tablets: a mask of eight bits, tablet 1 the lowest, halved on the way.
 use crate::holdings::holding_at;
+use model::Tablet;
 ghost use mathlib.Core.Path.{_≡_};
 ghost use Prim.Native.Nat.{_%_};
 ghost use mathlib.Core.Bool.{true, cond};
@@ -23,14 +24,15 @@ pub(crate) fn all_hold(held: &[u16], mask: u8, counts: &[u8; 8]) -> bool
     ensures { λ r. ⌜ ForHeld (now (held .entry)) (λ s. r ≡ eachNamed s mask (now (counts .entry))) ⌝ }
 {
     let mut rest = mask;
-    let mut j: usize = 0;
-    while j < 8 {
-        let held_here = holding_at(held, counts, j);
+    let mut i: u8 = 0;
+    while i < 8 {
+        let number = i + 1;
+        let held_here = holding_at(held, counts, Tablet(number));
         if !holds_if_named(rest, 1 <= held_here) {
             return false;
         }
         rest = rest / 2;
-        j += 1;
+        i = number;
     }
     true
 }

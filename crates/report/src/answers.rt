@@ -1,5 +1,6 @@
 // The answer to a question on a text that was read. Nothing is written before every line is known.
 use crate::Reported;
+use crate::SLOTS;
 use crate::refusals::refuse;
 use crate::totals::count_all;
 use cuts::Answer;
@@ -34,7 +35,7 @@ fn count_and_write(
     requires { ⌜ SoundTrace «record» (now clocks) (now order) × (room ≤ length (now out)) ⌝ }
     ensures { λ r. ⌜ ForTrace «record» (now (clocks .entry)) (now (order .entry)) (λ s. printed r (now (out .exit)) ≡ counting s found (cut .counts) (now (out .entry))) ⌝ }
 {
-    let mut counts = [0u64; 2033];
+    let mut counts = [0u64; SLOTS + 1];
     let totals = count_all(record, clocks, order, &mut counts);
     if !totals.fits {
         return refuse(Refusal::CountTooLarge, 0, out);

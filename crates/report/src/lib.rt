@@ -21,7 +21,7 @@ pub const OUTPUT_SIZE: usize = 71680;
 // The store's buffers: a slot for each event that fits, and eight bytes of clock for each slot.
 pub const SLOTS: usize = 2032;
 
-pub const CLOCKS_SIZE: usize = 16256;
+pub const CLOCKS_SIZE: usize = 8 * SLOTS;
 
 // What a report answers: "answered" or a refusal with its line, and how many bytes at the front of the output are to be
 // printed.
@@ -42,7 +42,7 @@ pub fn make_report(
 ) -> Reported
     ensures { λ r. ⌜ outcome (printed r (now (out .exit))) (now (clocks .exit)) (now (held .exit)) (now (order .exit)) ≡ reporting (now (input .entry)) (now (clocks .entry)) (now (held .entry)) (now (order .entry)) (now (out .entry)) ⌝ }
 {
-    if out.len() < 71680 {
+    if out.len() < OUTPUT_SIZE {
         return Reported {
             verdict: Verdict::Refused(Refusal::ShortOutput),
             line: 0,

@@ -177,7 +177,11 @@ module _ (s : Store) (none : storeRefusal s ≡ 0) (fits : (q : ℕ) → q < s .
         (λ high. List·getD-eq-default (take n clock) 0 (omega (arith, length-take-le n clock (omega (arith, stored-long, snd .narrow))))
         ∙ sym (follows .above i h (omega (arith, own-low)) (omega arith))))
 
-    pub event-read : (rest : List ℕ) → eventLines n (eventText s q ++ rest) ≡ record { fault = 0; used = length (eventText s q); event = stored q }
+    -- the bytes before the last of its lines
+    abbrev before-held : ℕ
+    before-held = length (keyLine tabletKey (getD (s .order) q 0)) + length (listLine clockKey (take n clock))
+
+    pub event-read : (rest : List ℕ) → eventLines n (eventText s q ++ rest) ≡ record { fault = 0; before = before-held; used = length (eventText s q); event = stored q }
     unfolding eventText
     event-read rest =
         let one = keyLine tabletKey (getD (s .order) q 0) in
@@ -193,10 +197,12 @@ module _ (s : Store) (none : storeRefusal s ≡ 0) (fits : (q : ℕ) → q < s .
         (ap (λ (l : Listed). l .fits) entries)
         (ap (numberLine heldKey 65535) third ∙ number-read heldKey refl (heldOf s name) rest 65535 (fits q inside)) in
         let values : clockLine n (restLines text) .values ≡ clock = ap (λ (l : Listed). l .values) entries ∙ all-entries in
+        let before : lineBytes text + lineBytes (restLines text) ≡ before-held =
+        omega (arith, number-bytes tabletKey refl (getD (s .order) q 0) (two ++ (three ++ rest)), ap lineBytes second ∙ clock-bytes (take n clock) (three ++ rest)) in
         let bytes : lineBytes text + lineBytes (restLines text) + lineBytes (restLines (restLines text)) ≡ length (one ++ (two ++ three)) =
-        omega (arith, number-bytes tabletKey refl (getD (s .order) q 0) (two ++ (three ++ rest)), ap lineBytes second ∙ clock-bytes (take n clock) (three ++ rest), ap lineBytes third ∙ number-bytes heldKey refl (heldOf s name) rest, length-append one (two ++ three), length-append two three) in
+        omega (arith, before, ap lineBytes third ∙ number-bytes heldKey refl (heldOf s name) rest, length-append one (two ++ three), length-append two three) in
         ap (eventLines n) parts ∙ said
-        ∙ (λ i. record { fault = 0; used = bytes i; event = record { tablet = record { 0 = getD (s .order) q 0 }; clock = values i; held = heldOf s name } })
+        ∙ (λ i. record { fault = 0; before = before i; used = bytes i; event = record { tablet = record { 0 = getD (s .order) q 0 }; clock = values i; held = heldOf s name } })
 
     pub event-goes-on : (rest : List ℕ) → endsHere (eventText s q ++ rest) ≡ false
     unfolding eventText endsHere
@@ -224,7 +230,7 @@ module _ (s : Store) (none : storeRefusal s ≡ 0) (fits : (q : ℕ) → q < s .
 
     pub turn-is : (rest : List ℕ) → turn r (eventText s q ++ rest) ≡ record { refusal = 0; line = 2; used = length (eventText s q); store = accepted r event }
     turn-is rest =
-        let e : EventLines = record { fault = 0; used = length (eventText s q); event = event } in
+        let e : EventLines = record { fault = 0; before = before-held q inside; used = length (eventText s q); event = event } in
         let said : e ≡ eventLines (r .tablets) (eventText s q ++ rest) = sym (event-read q inside rest) ∙ ap (λ (k : ℕ). eventLines k (eventText s q ++ rest)) (agree .tablets) in
         turn-offered r (eventText s q ++ rest) e said refl
         ∙ ap (λ (o : Outcome). record { refusal = o .refusal; line = 2; used = length (eventText s q); store = o .store }) (append-passed r event may)

@@ -1,16 +1,18 @@
 // Where an event lies, and comparing clocks where they lie in the lent bytes.
+use model::EventNumber;
+use model::Tablet;
 ghost use mathlib.Core.Path.{_≡_};
-ghost use Prim.Native.Nat.{_+_, _*_, _≤_, _<_};
+ghost use Prim.Native.Nat.{_+_, _*_, _≤_};
 ghost use lib.ListN.{length};
-ghost use Rattle.model.specs.Numbers.{slot};
+ghost use Rattle.model.specs.Numbers.{column, slotOf};
 ghost use Rattle.model.specs.Clocks.{clockIn, clockAt, covered, known};
 
-// The slot of event k of the tablet at index j.
-pub fn slot_of(j: usize, k: usize) -> usize
-    requires { ⌜ (j < 8) × (1 ≤ k) × (k ≤ 254) ⌝ }
-    ensures { λ r. ⌜ r ≡ slot j k ⌝ }
+// The slot of an event, by its tablet and its number there.
+pub fn slot_of(tablet: Tablet, number: EventNumber) -> usize
+    requires { ⌜ (1 ≤ tablet .0) × (tablet .0 ≤ 8) × (1 ≤ number .0) × (number .0 ≤ 254) ⌝ }
+    ensures { λ r. ⌜ r ≡ slotOf tablet number ⌝ }
 {
-    j * 254 + (k - 1)
+    (tablet.0 - 1) as usize * 254 + (number.0 - 1) as usize
 }
 
 // Whether the clock stored at a slot is at most another in each entry.
@@ -29,15 +31,15 @@ pub(crate) fn covered_at(clocks: &[u8], slot: usize, clock: &[u8]) -> bool
     true
 }
 
-// Whether the clock of event k of the tablet in column j, where there is one, is at most another in each entry; no event (k
-// is 0) knows nothing.
-pub fn known_covered(clocks: &[u8], j: usize, k: u8, clock: &[u8]) -> bool
-    requires { ⌜ (j < 8) × (k ≤ 254) × (16256 ≤ length (now clocks)) × (8 ≤ length (now clock)) ⌝ }
-    ensures { λ r. ⌜ r ≡ covered (known (clockAt (now (clocks .entry))) j k) (now (clock .entry)) ⌝ }
+// Whether the clock of a tablet's event is at most another in each entry. The number 0 stands for no event yet, which knows
+// nothing.
+pub fn known_covered(clocks: &[u8], tablet: Tablet, number: EventNumber, clock: &[u8]) -> bool
+    requires { ⌜ (1 ≤ tablet .0) × (tablet .0 ≤ 8) × (number .0 ≤ 254) × (16256 ≤ length (now clocks)) × (8 ≤ length (now clock)) ⌝ }
+    ensures { λ r. ⌜ r ≡ covered (known (clockAt (now (clocks .entry))) (column tablet) (number .0)) (now (clock .entry)) ⌝ }
 {
-    if k == 0 {
+    if number.0 == 0 {
         return true;
     }
-    let at = slot_of(j, k as usize);
+    let at = slot_of(tablet, number);
     covered_at(clocks, at, clock)
 }

@@ -1,8 +1,8 @@
 -- Filling a raised cut from the front: kept up to column k, the least that is needed behind it, zero above n.
-use mathlib.Core.Path.{_≡_, refl, sym, ap, _∙_}
+use mathlib.Core.Path.{_≡_, refl, sym, ap, ap₂, _∙_}
 use mathlib.Core.Logic.{_≢_, by-cases}
 use mathlib.Core.List.{List}
-use Prim.Native.Nat.{ℕ, suc, _+_, _≤_, _<_, max}
+use Prim.Native.Nat.{ℕ, suc, _+_, _-_, _≤_, _<_, max}
 use native.Mathlib.Omega.{arith}
 use native.Mathlib.Numerals.{add-one}
 use native.Mathlib.Decide.{ℕ-discrete, decLe, decLt}
@@ -11,6 +11,7 @@ use lib.Seq.{getD-set-same, getD-set-other}
 use Rattle.model.specs.Lists.{at, maxBelow}
 use Rattle.model.specs.Clocks.{Clocks, clockAt, known}
 use Rattle.model.specs.Step.{upTo, least, raised}
+use Rattle.model.proofs.Columns.{column-of-next}
 use Rattle.model.proofs.Entries.{same-entries}
 use Rattle.model.proofs.Largest.{maxBelow-same}
 use Rattle.model.proofs.Raised.{up-own, up-other, raised-upto, raised-behind, raised-long}
@@ -20,6 +21,12 @@ use Rattle.steps.specs.Walk.{Standing, Raisable, Liftable}
 -- the least that is needed in column i, by the counts up to column k of a list
 abbrev needed : Clocks → List ℕ → List ℕ → ℕ → ℕ → ℕ
 needed clk low counts k i = max (at low i) (maxBelow (k + 1) (λ m. at (known clk m (at counts m)) i))
+
+-- the same told by numbers: of the tablet j + 1, by the tablets up to number i
+pub needed-told : (clk : Clocks) (low counts : List ℕ) (i j entry : ℕ) → 1 ≤ i → entry ≡ max (at low j) (maxBelow i (λ m. at (known clk m (at counts m)) (j + 1 - 1))) → entry ≡ needed clk low counts (i - 1) j
+needed-told clk low counts i j entry some told =
+    let upto : i ≡ i - 1 + 1 = omega arith in
+    told ∙ ap₂ (λ (l x : ℕ). max (at low j) (maxBelow l (λ m. at (known clk m (at counts m)) x))) upto (column-of-next j)
 
 -- the list after the columns before j are filled
 pub record Filled (clk : Clocks) (low first : List ℕ) (k n : ℕ) (next : List ℕ) (j : ℕ) : Type 0 where
@@ -87,8 +94,9 @@ module _ {n : ℕ} {clocks low G : List ℕ} {k : ℕ} (lift : Liftable n clocks
       by-cases (ℕ-discrete i k) (λ e. rw e (omega (arith, first-own, next-fits)))
       (λ other. omega (arith, first-other i other, stand .inside .cut .most i (omega (arith, column-fits)), stand .span .stored i (omega (arith, column-fits))))
 
-  pub filled-start : Filled clk low first k n first (k + 1)
-  filled-start =
+  -- the next column, by whatever number the code has for it
+  pub filled-start : (j : ℕ) → j ≡ k + 1 → Filled clk low first k n first j
+  filled-start j next =
       record {
         behind = omega arith;
         within = omega (arith, can .column);

@@ -4,8 +4,10 @@ use mathlib.Core.Bool.{Bool, _&&_}
 use mathlib.Core.List.{List, []}
 use Prim.Native.Nat.{ℕ}
 use Rattle.model.specs.declared.Cut.{Cut}
+use Rattle.model.specs.declared.Position.{Position}
 use Rattle.model.specs.Clocks.{clockAt, covered}
 use Rattle.model.specs.Store.{Store}
+use Rattle.model.specs.Follow.{tallies}
 use Rattle.model.specs.Cuts.{consistent}
 use Rattle.model.specs.Step.{step}
 use Rattle.steps.specs.declared.spans.Span.{Span}
@@ -20,12 +22,15 @@ next-cut-unique clocks low high G a b first second p q =
 pub in-span-unique : (clocks : List ℕ) (span : Span) (cut : Cut) (a b : Bool) → a ≡ (covered (span .low .counts) (cut .counts) && consistent (clockAt clocks) (span .high .counts) (cut .counts)) → b ≡ (covered (span .low .counts) (cut .counts) && consistent (clockAt clocks) (span .high .counts) (cut .counts)) → a ≡ b
 in-span-unique clocks span cut a b p q = p ∙ sym q
 
+pub tallies-after-unique : (order : List ℕ) (position : Position) (a b : List ℕ) → a ≡ tallies order (position .0) → b ≡ tallies order (position .0) → a ≡ b
+tallies-after-unique order position a b p q = p ∙ sym q
+
 -- a range is told by its two cuts
 span-unique : (a b : Span) → a .low .counts ≡ b .low .counts → a .high .counts ≡ b .high .counts → a ≡ b
 span-unique a b l h = λ i. record { low = record { counts = l i }; high = record { counts = h i } }
 
-pub interval-span-unique : (clocks order : List ℕ) (p : ℕ) (a b : Span) → IntervalSpan clocks order p (a .low .counts) (a .high .counts) → IntervalSpan clocks order p (b .low .counts) (b .high .counts) → a ≡ b
-interval-span-unique clocks order p a b f g =
+pub interval-span-unique : (clocks order : List ℕ) (position : Position) (a b : Span) → IntervalSpan clocks order (position .0) (a .low .counts) (a .high .counts) → IntervalSpan clocks order (position .0) (b .low .counts) (b .high .counts) → a ≡ b
+interval-span-unique clocks order position a b f g =
     span-unique a b (f .low-is some refl refl ∙ sym (g .low-is some refl refl)) (f .high-is ∙ sym (g .high-is))
   where
     some : Store

@@ -9,8 +9,7 @@ use lib.ListN.{length}
 use Rattle.model.specs.Lists.{at}
 use Rattle.model.specs.Clocks.{clockAt}
 use Rattle.model.specs.Step.{canRaise}
-use Rattle.model.proofs.Ranges.{InRange}
-use Rattle.model.proofs.Bounds.{Bounds}
+use Rattle.model.specs.Ranges.{Bounds, InRange}
 
 -- the bounds of a walk over lent clocks: no entry above n, none above 254
 pub record Span (n : ℕ) (clocks low high : List ℕ) : Type 0 where

@@ -1,6 +1,8 @@
 // Whether a cut is one of a range's.
 use crate::spans::Span;
 use model::Cut;
+use model::EventNumber;
+use model::Tablet;
 use store::inner::known_covered;
 ghost use mathlib.Core.Path.{_≡_};
 ghost use mathlib.Core.Bool.{_&&_};
@@ -27,12 +29,14 @@ fn is_closed(clocks: &[u8], counts: [u8; 8]) -> bool
     requires { ⌜ CutReady (now clocks) counts ⌝ }
     ensures { λ r. ⌜ r ≡ closed (clockAt (now (clocks .entry))) counts ⌝ }
 {
-    let mut j: usize = 0;
-    while j < 8 {
-        if !known_covered(clocks, j, counts[j], &counts) {
+    let mut i: u8 = 0;
+    while i < 8 {
+        let count = counts[i as usize];
+        let number = i + 1;
+        if !known_covered(clocks, Tablet(number), EventNumber(count), &counts) {
             return false;
         }
-        j += 1;
+        i = number;
     }
     true
 }

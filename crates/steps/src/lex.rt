@@ -1,36 +1,43 @@
 // The lexical engine (documents 000 and 002): from a cut of a range to the next. In a step nothing is tested or copied that
 // is only compared; it takes at most n squared byte comparisons.
+use model::EventNumber;
+use model::Tablet;
 use store::inner::slot_of;
 ghost use mathlib.Core.Path.{_≡_};
-ghost use Prim.Native.Nat.{_+_, _≤_, _<_, max};
+ghost use Prim.Native.Nat.{_≤_, max};
 ghost use lib.ListN.{length};
 ghost use Rattle.model.specs.Lists.{at, maxBelow};
+ghost use Rattle.model.specs.Numbers.{column};
 ghost use Rattle.model.specs.Clocks.{clockAt, known};
 ghost use Rattle.model.specs.Step.{canRaise, raised, step};
 ghost use Rattle.steps.specs.Walk.{Standing, Liftable, Known, stepped, nextAfter};
 
-// What event k of the tablet in column i knows of the tablet in column j; no event (k is 0) knows nothing.
-fn known_entry(clocks: &[u8], i: usize, k: u8, j: usize) -> u8
-    requires { ⌜ (16256 ≤ length (now clocks)) × (i < 8) × (k ≤ 254) × (j < 8) ⌝ }
-    ensures { λ r. ⌜ r ≡ at (known (clockAt (now (clocks .entry))) i k) j ⌝ }
+// What an event of one tablet knows of another. The number 0 stands for no event yet, which knows nothing.
+fn known_entry(clocks: &[u8], tablet: Tablet, number: EventNumber, other: Tablet) -> u8
+    requires { ⌜ (16256 ≤ length (now clocks)) × (1 ≤ tablet .0) × (tablet .0 ≤ 8) × (number .0 ≤ 254) × (1 ≤ other .0) × (other .0 ≤ 8) ⌝ }
+    ensures { λ r. ⌜ r ≡ at (known (clockAt (now (clocks .entry))) (column tablet) (number .0)) (column other) ⌝ }
 {
-    if k == 0 {
+    if number.0 == 0 {
         return 0;
     }
-    let from = 8 * slot_of(i, k as usize);
+    let from = 8 * slot_of(tablet, number);
+    let j = (other.0 - 1) as usize;
     clocks[from + j]
 }
 
-fn can_raise(clocks: &[u8], high: &[u8; 8], counts: &[u8; 8], k: usize) -> bool
-    requires { ⌜ (16256 ≤ length (now clocks)) × (k < 8) × (at (now high) k ≤ 254) ⌝ }
-    ensures { λ r. ⌜ r ≡ canRaise (clockAt (now (clocks .entry))) (now (high .entry)) (now (counts .entry)) k ⌝ }
+fn can_raise(clocks: &[u8], high: &[u8; 8], counts: &[u8; 8], tablet: Tablet) -> bool
+    requires { ⌜ (16256 ≤ length (now clocks)) × (1 ≤ tablet .0) × (tablet .0 ≤ 8) × (at (now high) (column tablet) ≤ 254) ⌝ }
+    ensures { λ r. ⌜ r ≡ canRaise (clockAt (now (clocks .entry))) (now (high .entry)) (now (counts .entry)) (column tablet) ⌝ }
 {
-    if high[k] <= counts[k] {
+    let own = (tablet.0 - 1) as usize;
+    let count = counts[own];
+    if high[own] <= count {
         return false;
     }
-    let from = 8 * slot_of(k, counts[k] as usize + 1);
+    let next = count + 1;
+    let from = 8 * slot_of(tablet, EventNumber(next));
     let mut j: usize = 0;
-    while j < k {
+    while j < own {
         if counts[j] < clocks[from + j] {
             return false;
         }
@@ -39,32 +46,38 @@ fn can_raise(clocks: &[u8], high: &[u8; 8], counts: &[u8; 8], k: usize) -> bool
     true
 }
 
-// The largest of a floor and of what the events of all tablets up to column k know of the tablet in column j.
-fn least_entry(clocks: &[u8], counts: &[u8; 8], k: usize, j: usize, floor: u8) -> u8
-    requires { ⌜ Known (now clocks) (now counts) k j ⌝ }
-    ensures { λ r. ⌜ r ≡ max floor (maxBelow (k + 1) (λ i. at (known (clockAt (now (clocks .entry))) i (at (now (counts .entry)) i)) j)) ⌝ }
+// The largest of a floor and of what the events of all tablets up to a last one know of another tablet.
+fn least_entry(clocks: &[u8], counts: &[u8; 8], last: Tablet, other: Tablet, floor: u8) -> u8
+    requires { ⌜ (1 ≤ last .0) × (1 ≤ other .0) × Known (now clocks) (now counts) (column last) (column other) ⌝ }
+    ensures { λ r. ⌜ r ≡ max floor (maxBelow (last .0) (λ i. at (known (clockAt (now (clocks .entry))) i (at (now (counts .entry)) i)) (column other))) ⌝ }
 {
+    let own = last.0 - 1;
     let mut most = floor;
-    let mut i: usize = 0;
-    while i <= k {
-        let entry = known_entry(clocks, i, counts[i], j);
+    let mut i: u8 = 0;
+    while i <= own {
+        let count = counts[i as usize];
+        let number = i + 1;
+        let entry = known_entry(clocks, Tablet(number), EventNumber(count), other);
         if most < entry {
             most = entry;
         }
-        i += 1;
+        i = number;
     }
     most
 }
 
-fn raise(n: usize, clocks: &[u8], low: &[u8; 8], counts: &mut [u8; 8], k: usize)
-    requires { ⌜ Liftable n (now clocks) (now low) (now counts) k ⌝ }
-    ensures { λ r. ⌜ now (counts .exit) ≡ raised (clockAt (now (clocks .entry))) (now (low .entry)) (now (counts .entry)) k ⌝ }
+fn raise(n: u8, clocks: &[u8], low: &[u8; 8], counts: &mut [u8; 8], tablet: Tablet)
+    requires { ⌜ (1 ≤ tablet .0) × Liftable n (now clocks) (now low) (now counts) (column tablet) ⌝ }
+    ensures { λ r. ⌜ now (counts .exit) ≡ raised (clockAt (now (clocks .entry))) (now (low .entry)) (now (counts .entry)) (column tablet) ⌝ }
 {
-    counts[k] = counts[k] + 1;
-    let mut j = k + 1;
-    while j < n {
-        counts[j] = least_entry(clocks, counts, k, j, low[j]);
-        j += 1;
+    let own = (tablet.0 - 1) as usize;
+    counts[own] = counts[own] + 1;
+    let mut i = tablet.0;
+    while i < n {
+        let j = i as usize;
+        let number = i + 1;
+        counts[j] = least_entry(clocks, counts, tablet, Tablet(number), low[j]);
+        i = number;
     }
 }
 
@@ -80,13 +93,14 @@ pub fn next_cut(
     requires { ⌜ Standing n (now clocks) (now low) (now high) (now counts) ⌝ }
     ensures { λ r. ⌜ stepped r (now (counts .exit)) ≡ nextAfter (now (counts .entry)) (step (clockAt (now (clocks .entry))) (now (low .entry)) (now (high .entry)) (now (counts .entry))) ⌝ }
 {
-    let mut k = n;
-    while 0 < k {
-        k -= 1;
-        if can_raise(clocks, high, counts, k) {
-            raise(n, clocks, low, counts, k);
+    let last = n as u8;
+    let mut number = last;
+    while 0 < number {
+        if can_raise(clocks, high, counts, Tablet(number)) {
+            raise(last, clocks, low, counts, Tablet(number));
             return true;
         }
+        number -= 1;
     }
     false
 }

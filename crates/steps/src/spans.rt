@@ -1,5 +1,8 @@
 // The ranges of a stored trace: an event's interval, and the whole trace.
 use model::Cut;
+use model::EventNumber;
+use model::Position;
+use model::Tablet;
 use store::inner::slot_of;
 ghost use mathlib.Core.Path.{_≡_};
 ghost use Prim.Native.Nat.{_+_, _*_, _≤_};
@@ -14,16 +17,17 @@ pub struct Span {
     pub high: Cut,
 }
 
-// The tallies after the first p events, counted along the order list.
-fn tallies_after(order: &[u8], p: usize) -> [u8; 8]
-    requires { ⌜ Countable (now order) p ⌝ }
-    ensures { λ r. ⌜ r ≡ tallies (now (order .entry)) p ⌝ }
+// The tallies after a position, counted along the order list; before the first event (position 0) all are 0.
+pub fn tallies_after(order: &[u8], position: Position) -> [u8; 8]
+    requires { ⌜ Countable (now order) (position .0) ⌝ }
+    ensures { λ r. ⌜ r ≡ tallies (now (order .entry)) (position .0) ⌝ }
 {
+    let p = position.0 as usize;
     let mut counts = [0u8; 8];
     let mut q: usize = 0;
     while q < p {
-        let tablet = order[q];
-        let own = (tablet - 1) as usize;
+        let byte = order[q];
+        let own = (byte - 1) as usize;
         counts[own] = counts[own] + 1;
         q += 1;
     }
@@ -45,21 +49,24 @@ fn stored_clock(clocks: &[u8], slot: usize) -> [u8; 8]
     clock
 }
 
-// Interval p: from Gmin, the clock of the event at p, to Gbnd, the tallies after p; interval 0 is the empty cut alone.
-pub fn interval_span(clocks: &[u8], order: &[u8], p: usize) -> Span
-    requires { ⌜ IntervalReady (now clocks) (now order) p ⌝ }
-    ensures { λ r. ⌜ IntervalSpan (now (clocks .entry)) (now (order .entry)) p (r .low .counts) (r .high .counts) ⌝ }
+// The interval of a position: from Gmin, the clock of the event there, to Gbnd, the tallies after it, which the caller has at
+// hand. Interval 0 is the empty cut alone.
+pub fn interval_span(clocks: &[u8], order: &[u8], position: Position, counts: [u8; 8]) -> Span
+    requires { ⌜ IntervalReady (now clocks) (now order) (position .0) × (counts ≡ tallies (now order) (position .0)) ⌝ }
+    ensures { λ r. ⌜ IntervalSpan (now (clocks .entry)) (now (order .entry)) (position .0) (r .low .counts) (r .high .counts) ⌝ }
 {
-    let counts = tallies_after(order, p);
+    let p = position.0;
     if p == 0 {
         return Span {
             low: Cut { counts: [0u8; 8] },
             high: Cut { counts },
         };
     }
-    let tablet = order[p - 1];
-    let own = (tablet - 1) as usize;
-    let slot = slot_of(own, counts[own] as usize);
+    let q = (p - 1) as usize;
+    let byte = order[q];
+    let own = (byte - 1) as usize;
+    let number = counts[own];
+    let slot = slot_of(Tablet(byte), EventNumber(number));
     let clock = stored_clock(clocks, slot);
     Span {
         low: Cut { counts: clock },
@@ -68,11 +75,11 @@ pub fn interval_span(clocks: &[u8], order: &[u8], p: usize) -> Span
 }
 
 // The whole trace: from the empty cut to the tallies.
-pub fn trace_span(order: &[u8], events: usize) -> Span
+pub fn trace_span(order: &[u8], events: u16) -> Span
     requires { ⌜ Countable (now order) events ⌝ }
     ensures { λ r. ⌜ TraceSpan (now (order .entry)) events (r .low .counts) (r .high .counts) ⌝ }
 {
-    let counts = tallies_after(order, events);
+    let counts = tallies_after(order, Position(events));
     Span {
         low: Cut { counts: [0u8; 8] },
         high: Cut { counts },

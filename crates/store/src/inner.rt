@@ -47,9 +47,9 @@ pub fn append(
     ensures { λ r. ⌜ AppendedTo (storeOf «record» (now (clocks .entry)) (now (held .entry)) (now (order .entry))) event (appended r (now (clocks .exit)) (now (held .exit)) (now (order .exit))) (r .tallies) ⌝ }
 {
     let n = record.tablets;
-    let t = event.tablet;
+    let tablet = event.tablet;
     let clock = event.clock;
-    let v = offered_verdict(n, clocks, tallies, t.0, &clock);
+    let v = offered_verdict(n, clocks, tallies, tablet, &clock);
     match v {
         Verdict::Refused(_) => Appended {
             verdict: v,

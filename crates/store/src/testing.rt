@@ -1,6 +1,7 @@
 // The store test: one pass over the order list that stops at the first fault.
 use model::Record;
 use model::Refusal;
+use model::Tablet;
 use model::Verdict;
 use rules::follow::stored_verdict;
 ghost use mathlib.Core.Path.{_≡_};
@@ -23,15 +24,15 @@ pub(crate) fn follow_all(n: u8, events: usize, clocks: &[u8], order: &[u8]) -> R
     let mut counts = [0u8; 8];
     let mut p: usize = 0;
     while p < events {
-        let tablet = order[p];
-        let v = stored_verdict(n, clocks, counts, tablet);
+        let byte = order[p];
+        let v = stored_verdict(n, clocks, counts, Tablet(byte));
         let Verdict::Passed = v else {
             return Run {
                 passed: false,
                 counts,
             };
         };
-        let own = (tablet - 1) as usize;
+        let own = (byte - 1) as usize;
         counts[own] = counts[own] + 1;
         p += 1;
     }

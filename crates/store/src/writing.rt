@@ -2,6 +2,7 @@
 use crate::inner::Appended;
 use crate::inner::write_eight;
 use model::Event;
+use model::EventNumber;
 use model::Record;
 use model::Verdict;
 use rules::clocks::slot_of;
@@ -19,23 +20,25 @@ pub(crate) fn write_event(
     requires { ⌜ WriteReady (storeOf «record» (now clocks) (now held) (now order)) tallies event ⌝ }
     ensures { λ r. ⌜ Stored (storeOf «record» (now (clocks .entry)) (now (held .entry)) (now (order .entry))) event (appended r (now (clocks .exit)) (now (held .exit)) (now (order .exit))) (r .tallies) ⌝ }
 {
-    let t = event.tablet;
-    let tablet = t.0;
-    let own = (tablet - 1) as usize;
+    let tablet = event.tablet;
+    let byte = tablet.0;
+    let own = (byte - 1) as usize;
     let count = tallies[own];
-    let at = slot_of(own, count as usize + 1);
+    let number = count + 1;
+    let at = slot_of(tablet, EventNumber(number));
     let clock = event.clock;
     write_eight(clocks, 8 * at, clock);
     held[at] = event.held;
     let next = record.events as usize;
-    order[next] = tablet;
+    order[next] = byte;
     let mut counts = tallies;
-    counts[own] = count + 1;
+    counts[own] = number;
+    let events = record.events + 1;
     Appended {
         verdict: Verdict::Passed,
         record: Record {
             tablets: record.tablets,
-            events: record.events + 1,
+            events,
         },
         tallies: counts,
     }

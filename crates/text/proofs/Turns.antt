@@ -1,39 +1,29 @@
 -- Reading, one turn at a time: the last line, the lines of an event, and what a turn does to the rest.
-use mathlib.Core.Path.{_≡_, refl, sym, ap, _∙_}
+use mathlib.Core.Path.{_≡_, refl, sym, ap, _∙_, subst}
 use mathlib.Core.Logic.{_≢_, by-cases}
 use mathlib.Core.Bool.{Bool, true, false, cond}
-use mathlib.Core.List.{List, [], _∷_}
+use mathlib.Core.List.{List}
 use Prim.Native.Nat.{ℕ, suc, _+_, _-_, _≤_, _<_}
 use native.Mathlib.Omega.{arith}
 use native.Mathlib.Decide.{ℕ-discrete, decLe}
 use borrow.Author.Tests.{eq-eqb, ne-eqb, lt-ltb, le-ltb}
 use lib.Dec.{eqb, ltb}
-use lib.ListN.{length, drop, length-drop}
+use lib.ListN.{length, drop}
 use lib.Seq.{drop-drop}
 use Rattle.model.specs.declared.Event.{Event}
-use Rattle.model.specs.declared.Record.{Record}
-use Rattle.model.specs.declared.Refusal.{Refusal}
-use Rattle.model.specs.declared.Verdict.the-variants.{Refused}
-use Rattle.model.specs.Lists.{eight}
-use Rattle.model.specs.Follow.{tallies}
-use Rattle.model.specs.Refusals.{numberOf, verdictNumber}
-use Rattle.model.specs.Store.{Store, storeOf, accepted, eventRefusal}
-use Rattle.store.specs.Outcomes.{Outcome, appending, AppendReady}
+use Rattle.model.specs.Store.{Store, accepted, eventRefusal}
+use Rattle.store.specs.Outcomes.{Outcome, appending}
 use Rattle.store.proofs.Outcomes.{append-passed, append-refused}
-use Rattle.lines.specs.Find.{restLines}
+use Rattle.lines.specs.Find.{firstLine, restLines}
 use Rattle.lines.specs.declared.numbers.Number.{Number}
 use Rattle.lines.specs.declared.numbers.Number.the-variants.{Value, Faulty}
 use Rattle.loglines.specs.declared.events.EventLines.{EventLines}
-use Rattle.text.specs.declared.reading.ReadAnswer.{ReadAnswer}
 use Rattle.loglines.specs.Keys.{numberLine, clockLine, endsHere, tabletKey, heldKey, eventsKey}
 use Rattle.loglines.specs.Events.{withNumber, faultyEvent, lineBytes, heldPart, clockPart, eventLines}
-use Rattle.text.specs.Reading.{ReadOutcome, readOutcome, refused, ending, TurnOutcome, offered, turn, readFrom, readOn, ReadReady}
-use Rattle.loglines.proofs.Lines.{with-value, with-fault, number-inside, clock-inside, no-clock, clock-then}
-
--- an answer that refuses
-pub answer-refused : (a : ReadAnswer) (why : Refusal) (line : ℕ) (r : Record) (clocks held order : List ℕ) → (a .verdict ≡ Refused why) × (a .line ≡ line) × (a .«record» ≡ r) → readOutcome a clocks held order ≡ refused (numberOf why) line (storeOf r clocks held order)
-answer-refused a why line r clocks held order e =
-    λ i. record { refusal = ap verdictNumber (e .0) i; line = e .1 i; store = storeOf (e .2 i) clocks held order }
+use Rattle.loglines.proofs.Lines.{with-value, with-fault, number-some, clock-some, no-clock, clock-then}
+use Rattle.text.specs.Reading.{ReadOutcome, refused, ending, TurnOutcome, offered, turn, readFrom, readOn}
+use Rattle.text.specs.Steps.{Placed}
+use Rattle.text.proofs.Places.{at-front, behind-line, further}
 
 -- the last line
 
@@ -130,10 +120,21 @@ pub record EventBack (n : ℕ) (text : List ℕ) : Type 0 where
   pub tablet-is : numberLine tabletKey 255 text ≡ Value tablet
   pub clock-fits : clockLine n (restLines text) .fits ≡ true
   pub held-is : numberLine heldKey 65535 (restLines (restLines text)) ≡ Value held
-  pub is : eventLines n text ≡ record { fault = 0; used = lineBytes text + lineBytes (restLines text) + lineBytes (restLines (restLines text)); event = record { tablet = record { 0 = tablet }; clock = clockLine n (restLines text) .values; held = held } }
+  pub is : eventLines n text ≡ record { fault = 0; before = lineBytes text + lineBytes (restLines text); used = lineBytes text + lineBytes (restLines text) + lineBytes (restLines (restLines text)); event = record { tablet = record { 0 = tablet }; clock = clockLine n (restLines text) .values; held = held } }
 
 abbrev heldFor : ℕ → ℕ → List ℕ → List ℕ → ℕ → EventLines
-heldFor used tablet clock text held = record { fault = 0; used = used + lineBytes text; event = record { tablet = record { 0 = tablet }; clock = clock; held = held } }
+heldFor used tablet clock text held = record { fault = 0; before = used; used = used + lineBytes text; event = record { tablet = record { 0 = tablet }; clock = clock; held = held } }
+
+-- what an event's lines say: the first of them that is faulty, or the event
+pub data EventSaid (n : ℕ) (text : List ℕ) : Type 0 where
+  no-tablet : eventLines n text ≡ faultyEvent 1 0 → EventSaid n text
+  no-list : 1 ≤ length (firstLine text) → eventLines n text ≡ faultyEvent 2 (lineBytes text) → EventSaid n text
+  no-held : 1 ≤ length (firstLine text) → 1 ≤ length (firstLine (restLines text)) → eventLines n text ≡ faultyEvent 3 (lineBytes text + lineBytes (restLines text)) → EventSaid n text
+  gives : EventBack n text → EventSaid n text
+
+-- how many of the three lines stand before the last one that was looked at
+abbrev pub linesBefore : EventLines → ℕ
+linesBefore e = cond (eqb (e .fault) 0) 2 (e .fault - 1)
 
 module _ (n : ℕ) (text : List ℕ) where
   abbrev second : List ℕ
@@ -142,65 +143,93 @@ module _ (n : ℕ) (text : List ℕ) where
   abbrev third : List ℕ
   third = restLines (restLines text)
 
-  tablet-line : eventLines n text ≡ withNumber (numberLine tabletKey 255 text) (faultyEvent 1) (λ t. clockPart n (lineBytes text) t second)
+  tablet-line : eventLines n text ≡ withNumber (numberLine tabletKey 255 text) (faultyEvent 1 0) (λ t. clockPart n (lineBytes text) t second)
   unfolding eventLines
   tablet-line = refl
 
-  held-line : (used tablet : ℕ) (clock : List ℕ) → heldPart used tablet clock third ≡ withNumber (numberLine heldKey 65535 third) (faultyEvent 3) (heldFor used tablet clock third)
+  held-line : (used tablet : ℕ) (clock : List ℕ) → heldPart used tablet clock third ≡ withNumber (numberLine heldKey 65535 third) (faultyEvent 3 used) (heldFor used tablet clock third)
   unfolding heldPart
   held-line used tablet clock = refl
 
-  pub event-said : (t h : ℕ) → numberLine tabletKey 255 text ≡ Value t → clockLine n second .fits ≡ true → numberLine heldKey 65535 third ≡ Value h → eventLines n text ≡ record { fault = 0; used = lineBytes text + lineBytes second + lineBytes third; event = record { tablet = record { 0 = t }; clock = clockLine n second .values; held = h } }
+  pub event-said : (t h : ℕ) → numberLine tabletKey 255 text ≡ Value t → clockLine n second .fits ≡ true → numberLine heldKey 65535 third ≡ Value h → eventLines n text ≡ record { fault = 0; before = lineBytes text + lineBytes second; used = lineBytes text + lineBytes second + lineBytes third; event = record { tablet = record { 0 = t }; clock = clockLine n second .values; held = h } }
   event-said t h et fits eh =
       tablet-line
-      ∙ with-value (faultyEvent 1) (λ k. clockPart n (lineBytes text) k second) (numberLine tabletKey 255 text) t et
+      ∙ with-value (faultyEvent 1 0) (λ k. clockPart n (lineBytes text) k second) (numberLine tabletKey 255 text) t et
       ∙ clock-then n (lineBytes text) t second fits
       ∙ held-line (lineBytes text + lineBytes second) t (clockLine n second .values)
-      ∙ with-value (faultyEvent 3) (heldFor (lineBytes text + lineBytes second) t (clockLine n second .values) third) (numberLine heldKey 65535 third) h eh
+      ∙ with-value (faultyEvent 3 (lineBytes text + lineBytes second)) (heldFor (lineBytes text + lineBytes second) t (clockLine n second .values) third) (numberLine heldKey 65535 third) h eh
 
   by-held : (t h : ℕ) → numberLine tabletKey 255 text ≡ Value t → clockLine n second .fits ≡ true → numberLine heldKey 65535 third ≡ Value h → EventBack n text
   by-held t h et fits eh =
       record { tablet = t; held = h; tablet-is = et; clock-fits = fits; held-is = eh; is = event-said t h et fits eh }
 
-module _ (n : ℕ) (text : List ℕ) (whole : eventLines n text .fault ≡ 0) where
-  no-fault : (k : ℕ) → 1 ≤ k → eventLines n text ≡ faultyEvent k → ⊥
-  no-fault k h e = omega (arith, ap (λ (l : EventLines). l .fault) e)
-
-  by-clock : (t : ℕ) → numberLine tabletKey 255 text ≡ Value t → (b : Bool) → clockLine n (restLines text) .fits ≡ b → (y : Number) → numberLine heldKey 65535 (restLines (restLines text)) ≡ y → EventBack n text
-  by-clock t et true fits (Value h) eh = by-held n text t h et fits eh
+  -- so the three lines give an event, or one of them is the first faulty one
+  by-clock : (t : ℕ) → numberLine tabletKey 255 text ≡ Value t → (b : Bool) → clockLine n second .fits ≡ b → (y : Number) → numberLine heldKey 65535 third ≡ y → EventSaid n text
+  by-clock t et true fits (Value h) eh = gives (by-held t h et fits eh)
   by-clock t et true fits Faulty eh =
-      absurd (no-fault 3 (omega arith)
-      (tablet-line n text
-      ∙ with-value (faultyEvent 1) (λ k. clockPart n (lineBytes text) k (restLines text)) (numberLine tabletKey 255 text) t et
-      ∙ clock-then n (lineBytes text) t (restLines text) fits
-      ∙ held-line n text (lineBytes text + lineBytes (restLines text)) t (clockLine n (restLines text) .values)
-      ∙ with-fault (faultyEvent 3) (heldFor (lineBytes text + lineBytes (restLines text)) t (clockLine n (restLines text) .values) (restLines (restLines text))) (numberLine heldKey 65535 (restLines (restLines text))) eh))
+      no-held (number-some tabletKey 255 text t et) (clock-some n second fits)
+      (tablet-line
+      ∙ with-value (faultyEvent 1 0) (λ k. clockPart n (lineBytes text) k second) (numberLine tabletKey 255 text) t et
+      ∙ clock-then n (lineBytes text) t second fits
+      ∙ held-line (lineBytes text + lineBytes second) t (clockLine n second .values)
+      ∙ with-fault (faultyEvent 3 (lineBytes text + lineBytes second)) (heldFor (lineBytes text + lineBytes second) t (clockLine n second .values) third) (numberLine heldKey 65535 third) eh)
   by-clock t et false fits y eh =
-      absurd (no-fault 2 (omega arith)
-      (tablet-line n text
-      ∙ with-value (faultyEvent 1) (λ k. clockPart n (lineBytes text) k (restLines text)) (numberLine tabletKey 255 text) t et
-      ∙ no-clock n (lineBytes text) t (restLines text) fits))
+      no-list (number-some tabletKey 255 text t et)
+      (tablet-line
+      ∙ with-value (faultyEvent 1 0) (λ k. clockPart n (lineBytes text) k second) (numberLine tabletKey 255 text) t et
+      ∙ no-clock n (lineBytes text) t second fits)
 
-  by-tablet : (x : Number) → numberLine tabletKey 255 text ≡ x → EventBack n text
-  by-tablet (Value t) et = by-clock t et (clockLine n (restLines text) .fits) refl (numberLine heldKey 65535 (restLines (restLines text))) refl
+  by-tablet : (x : Number) → numberLine tabletKey 255 text ≡ x → EventSaid n text
+  by-tablet (Value t) et = by-clock t et (clockLine n second .fits) refl (numberLine heldKey 65535 third) refl
   by-tablet Faulty et =
-      absurd (no-fault 1 (omega arith)
-      (tablet-line n text ∙ with-fault (faultyEvent 1) (λ k. clockPart n (lineBytes text) k (restLines text)) (numberLine tabletKey 255 text) et))
+      no-tablet (tablet-line ∙ with-fault (faultyEvent 1 0) (λ k. clockPart n (lineBytes text) k second) (numberLine tabletKey 255 text) et)
+
+  pub event-lines : EventSaid n text
+  event-lines = by-tablet (numberLine tabletKey 255 text) refl
+
+  -- where the last line that was looked at begins, and how many lines stand before it
+  before-third : 1 ≤ length (firstLine text) → 1 ≤ length (firstLine second) → Placed text (lineBytes text + lineBytes second) 3
+  before-third one two = further text (lineBytes text) 2 (behind-line text one) (lineBytes second) 1 (behind-line second two)
+
+  looked-at : (e : EventLines) → eventLines n text ≡ e → Placed text (e .before) (linesBefore e + 1) → Placed text (eventLines n text .before) (linesBefore (eventLines n text) + 1)
+  looked-at e is = subst (λ (x : EventLines). Placed text (x .before) (linesBefore x + 1)) (sym is)
+
+  by-said : EventSaid n text → Placed text (eventLines n text .before) (linesBefore (eventLines n text) + 1)
+  by-said (no-tablet is) = looked-at _ is (at-front text)
+  by-said (no-list one is) = looked-at _ is (behind-line text one)
+  by-said (no-held one two is) = looked-at _ is (before-third one two)
+  by-said (gives b) =
+      looked-at _ (b .is) (before-third (number-some tabletKey 255 text (b .tablet) (b .tablet-is)) (clock-some n second (b .clock-fits)))
+
+  pub event-looked : Placed text (eventLines n text .before) (linesBefore (eventLines n text) + 1)
+  event-looked = by-said event-lines
+
+module _ (n : ℕ) (text : List ℕ) (whole : eventLines n text .fault ≡ 0) where
+  no-fault : (k before : ℕ) → 1 ≤ k → eventLines n text ≡ faultyEvent k before → ⊥
+  no-fault k before h e = omega (arith, ap (λ (l : EventLines). l .fault) e)
+
+  by-lines : EventSaid n text → EventBack n text
+  by-lines (no-tablet is) = absurd (no-fault 1 _ (omega arith) is)
+  by-lines (no-list one is) = absurd (no-fault 2 _ (omega arith) is)
+  by-lines (no-held one two is) = absurd (no-fault 3 _ (omega arith) is)
+  by-lines (gives b) = b
 
   pub event-back : EventBack n text
-  event-back = by-tablet (numberLine tabletKey 255 text) refl
+  event-back = by-lines (event-lines n text)
 
-  -- they take three bytes or more, and lie within the text
-  pub used-within : (3 ≤ eventLines n text .used) × (eventLines n text .used ≤ length text)
+  -- they take three bytes or more, and are three whole lines
+  pub used-within : (3 ≤ eventLines n text .used) × Placed text (eventLines n text .used) 4
   used-within =
       let b = event-back in
+      let second = restLines text in
+      let third = restLines second in
       let used = ap (λ (l : EventLines). l .used) (b .is) in
-      let first = number-inside tabletKey 255 text (b .tablet) (b .tablet-is) in
-      let next = clock-inside n (restLines text) (b .clock-fits) in
-      let last = number-inside heldKey 65535 (restLines (restLines text)) (b .held) (b .held-is) in
-      let long = length-drop (lineBytes text) text in
-      let longer = length-drop (lineBytes (restLines text)) (restLines text) in
-      (omega (arith, used), omega (arith, used, first, next, last, long, longer))
+      let two = before-third n text (number-some tabletKey 255 text (b .tablet) (b .tablet-is)) (clock-some n second (b .clock-fits)) in
+      let last = subst (λ (rest : List ℕ). Placed rest (lineBytes third) 2) (drop-drop (lineBytes second) (lineBytes text) text)
+      (behind-line third (number-some heldKey 65535 third (b .held) (b .held-is))) in (
+        omega (arith, used),
+        subst (λ (k : ℕ). Placed text k 4) (sym used) (further text (lineBytes text + lineBytes second) 3 two (lineBytes third) 1 last),
+      )
 
 -- a turn that passed: the event was accepted
 pub record TurnPassed (s : Store) (text : List ℕ) : Type 0 where
@@ -237,43 +266,33 @@ pub turn-events : (s : Store) (text : List ℕ) → turn s text .refusal ≡ 0 �
 unfolding accepted
 turn-events s text none = ap (λ (r : Store). r .events) (turn-passed s text none .stored)
 
--- the line of a fault is one of the three
+-- the line that a turn names, and the offset of its line
 
-held-fault : (used tablet : ℕ) (clock text : List ℕ) (x : Number) → withNumber x (faultyEvent 3) (heldFor used tablet clock text) .fault ≤ 3
-held-fault used tablet clock text (Value h) = omega arith
-held-fault used tablet clock text Faulty = omega arith
-
-clock-fault : (b : Bool) (used tablet : ℕ) (clock text : List ℕ) → cond b (heldPart used tablet clock text) (faultyEvent 2) .fault ≤ 3
-unfolding heldPart
-clock-fault true used tablet clock text = held-fault used tablet clock text (numberLine heldKey 65535 text)
-clock-fault false used tablet clock text = omega arith
-
-tablet-fault : (n used : ℕ) (text : List ℕ) (x : Number) → withNumber x (faultyEvent 1) (λ t. clockPart n used t text) .fault ≤ 3
-unfolding clockPart
-tablet-fault n used text (Value t) =
-    clock-fault (clockLine n text .fits) (used + lineBytes text) t (clockLine n text .values) (restLines text)
-tablet-fault n used text Faulty = omega arith
-
-pub turn-line : (s : Store) (text : List ℕ) → turn s text .line ≤ 2
-unfolding turn eventLines
-turn-line s text =
-    by-fault (eqb (eventLines (s .tablets) text .fault) 0)
-    (tablet-fault (s .tablets) (lineBytes text) (restLines text) (numberLine tabletKey 255 text))
+pub turn-line : (s : Store) (text : List ℕ) → turn s text .line ≡ linesBefore (eventLines (s .tablets) text)
+unfolding turn
+turn-line s text = by-fault (eqb (eventLines (s .tablets) text .fault) 0)
   where
-    by-fault : (b : Bool) → eventLines (s .tablets) text .fault ≤ 3 → cond {A = TurnOutcome} b (record { refusal = appending s (eventLines (s .tablets) text .event) .refusal; line = 2; used = eventLines (s .tablets) text .used; store = appending s (eventLines (s .tablets) text .event) .store }) (record { refusal = 12; line = eventLines (s .tablets) text .fault - 1; used = 0; store = s }) .line ≤ 2
-    by-fault true h = omega arith
-    by-fault false h = omega arith
+    by-fault : (b : Bool) → cond {A = TurnOutcome} b (record { refusal = appending s (eventLines (s .tablets) text .event) .refusal; line = 2; used = eventLines (s .tablets) text .used; store = appending s (eventLines (s .tablets) text .event) .store }) (record { refusal = 12; line = eventLines (s .tablets) text .fault - 1; used = 0; store = s }) .line ≡ cond b 2 (eventLines (s .tablets) text .fault - 1)
+    by-fault true = refl
+    by-fault false = refl
 
 -- what the code's turn gives, at its place in the text
 
-module _ (s : Store) (line : ℕ) (text : List ℕ) (at : ℕ) (o : TurnOutcome) (is : o ≡ turn s (drop at text)) where
-  pub on-used : o .refusal ≡ 0 → at ≤ length text → (3 ≤ o .used) × (at + o .used ≤ length text)
-  on-used none inside =
+module _ (s : Store) (line : ℕ) (text : List ℕ) (at : ℕ) (o : TurnOutcome) (is : o ≡ turn s (drop at text)) (here : Placed text at line) where
+  -- the reader behind the event that was taken, or at the line that is refused
+  pub on-used : o .refusal ≡ 0 → (3 ≤ o .used) × Placed text (at + o .used) (line + 3)
+  on-used none =
       let passed = sym (ap (λ (t : TurnOutcome). t .refusal) is) ∙ none in
       let p = turn-passed s (drop at text) passed in
       let used = ap (λ (t : TurnOutcome). t .used) is ∙ p .used in
-      let bounds = used-within (s .tablets) (drop at text) (p .whole) in
-      (omega (arith, used, bounds .0), omega (arith, used, bounds .1, length-drop at text))
+      let w = used-within (s .tablets) (drop at text) (p .whole) in
+      (omega (arith, used, w .0), further text at line here (o .used) 3 (subst (λ (k : ℕ). Placed (drop at text) k 4) (sym used) (w .1)))
+
+  pub on-line : (before : ℕ) → before ≡ eventLines (s .tablets) (drop at text) .before → Placed text (at + before) (line + o .line)
+  on-line before b =
+      let lines = ap (λ (t : TurnOutcome). t .line) is ∙ turn-line s (drop at text) in
+      further text at line here before (o .line)
+      (subst (λ (k : ℕ). Placed (drop at text) k (o .line + 1)) (sym b) (subst (λ (k : ℕ). Placed (drop at text) (eventLines (s .tablets) (drop at text) .before) (k + 1)) (sym lines) (event-looked (s .tablets) (drop at text))))
 
   module _ (few : s .events ≤ 2032) (goes : endsHere (drop at text) ≡ false) where
     pub on-again : o .refusal ≡ 0 → readOn s line (drop at text) ≡ readOn (o .store) (line + 3) (drop (at + o .used) text)
@@ -287,15 +306,3 @@ module _ (s : Store) (line : ℕ) (text : List ℕ) (at : ℕ) (o : TurnOutcome)
     stop-here some =
         step-refused s line (drop at text) few goes (omega (arith, ap (λ (t : TurnOutcome). t .refusal) is))
         ∙ ap (λ (t : TurnOutcome). refused (t .refusal) (line + t .line) (t .store)) (sym is)
-
-  pub on-line : o .line ≤ 2
-  on-line = omega (arith, ap (λ (t : TurnOutcome). t .line) is, turn-line s (drop at text))
-
--- before the first turn
-none-yet : (order : List ℕ) → _≡_ {A = List ℕ} (0 ∷ 0 ∷ 0 ∷ 0 ∷ 0 ∷ 0 ∷ 0 ∷ 0 ∷ []) (tallies order 0)
-unfolding tallies eight
-none-yet order = refl
-
-pub fresh-ready : (s : Store) → ReadReady s → AppendReady s (0 ∷ 0 ∷ 0 ∷ 0 ∷ 0 ∷ 0 ∷ 0 ∷ 0 ∷ [])
-fresh-ready s r =
-    record { refusal = r .refusal; tally = none-yet (s .order) ∙ ap (tallies (s .order)) (sym (r .events)) }

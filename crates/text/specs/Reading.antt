@@ -1,20 +1,17 @@
 -- What reading answers and leaves behind, for every text and every three buffers.
-use mathlib.Core.Path.{_≡_}
 use Prim.Native.Nat.{ℕ, zero, suc, _+_, _-_}
 use mathlib.Core.Bool.{cond}
 use mathlib.Core.List.{List}
 use lib.Dec.{ltb, eqb}
 use lib.ListN.{length, drop}
 use Rattle.model.specs.declared.Record.{Record}
-use Rattle.model.specs.declared.Refusal.{Refusal}
 use Rattle.model.specs.Numbers.{tabletsFit}
-use Rattle.model.specs.Refusals.{numberOf, verdictNumber}
-use Rattle.model.specs.Store.{Store, storeOf, fullSizes, storeRefusal}
-use Rattle.store.specs.Outcomes.{appending, AppendReady}
+use Rattle.model.specs.Refusals.{verdictNumber}
+use Rattle.model.specs.Store.{Store, storeOf, fullSizes}
+use Rattle.store.specs.Outcomes.{appending}
 use Rattle.lines.specs.Find.{restLines}
 use Rattle.loglines.specs.declared.events.EventLines.{EventLines}
 use Rattle.text.specs.declared.reading.ReadAnswer.{ReadAnswer}
-use Rattle.text.specs.declared.reading.Turn.{Turn}
 use Rattle.loglines.specs.Keys.{numberLine, endsHere, tabletsKey, eventsKey}
 use Rattle.loglines.specs.Events.{withNumber, lineBytes, eventLines}
 
@@ -93,29 +90,3 @@ goingOn text o = cond (eqb (o .refusal) 0) (readOn (o .store) 2 (restLines text)
 
 unfoldable pub reading : List ℕ → List ℕ → List ℕ → List ℕ → ReadOutcome
 reading text clocks held order = goingOn text (beginning text clocks held order)
-
--- What the inner functions promise.
-
--- a refusal before a record was opened, whatever the buffers hold
-abbrev pub NothingRead : Refusal → ℕ → ReadAnswer → Type 0
-NothingRead why line a =
-    (clocks held order : List ℕ) → readOutcome a clocks held order ≡ refused (numberOf why) line (nothingRead clocks held order)
-
--- the answer to the last line, whatever the buffers hold
-abbrev pub EndRead : Record → ℕ → List ℕ → ReadAnswer → Type 0
-EndRead r line text a =
-    (clocks held order : List ℕ) → readOutcome a clocks held order ≡ ending (storeOf r clocks held order) line text
-
-abbrev pub turned : Turn → List ℕ → List ℕ → List ℕ → TurnOutcome
-turned t clocks held order =
-    record { refusal = verdictNumber (t .verdict); line = t .line; used = t .used; store = storeOf (t .record) clocks held order }
-
--- the outcome of a turn, and that another may follow
-pub record TurnTaken (s : Store) (text : List ℕ) (outcome : TurnOutcome) (tallies : List ℕ) : Type 0 where
-  pub outcome-is : outcome ≡ turn s text
-  pub ready : AppendReady (outcome .store) tallies
-
--- what reading may assume behind the `tablets` line: a sound store without events
-pub record ReadReady (s : Store) : Type 0 where
-  pub refusal : storeRefusal s ≡ 0
-  pub events : s .events ≡ 0

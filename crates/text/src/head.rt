@@ -1,50 +1,38 @@
-// The head of a text: the buffers' sizes and the `tablets` line. The buffers are only lent here, so that a refusal leaves them.
-use crate::reading::ReadAnswer;
-use crate::reading::refused_at;
+// The head of a text: the `tablets` line, at the text's front.
+use crate::steps::Step;
+use crate::steps::begun;
+use crate::steps::halt;
+use lines::find::line_length;
 use lines::numbers::Number;
 use loglines::keys::TABLETS;
 use loglines::keys::number_line;
-use model::Record;
 use model::Refusal;
 use model::Verdict;
 ghost use mathlib.Core.Path.{_≡_};
-ghost use Rattle.text.specs.Reading.{beginning, readOutcome, NothingRead};
+ghost use Rattle.text.specs.Steps.{HeadRead};
 
-// A refusal before a record was opened.
-fn not_read(why: Refusal, line: usize) -> ReadAnswer
-    ensures { λ r. ⌜ NothingRead why line r ⌝ }
+// The first turn: a fresh record, with the reader behind the line, or a refusal at it.
+pub(crate) fn head_turn(src: &[u8], at: usize, line: usize) -> Step
+    requires { ⌜ (at ≡ 0) × (line ≡ 1) ⌝ }
+    ensures { λ r. ⌜ HeadRead (now (src .entry)) at r ⌝ }
 {
-    let none = Record {
-        tablets: 0,
-        events: 0,
-    };
-    refused_at(why, line, none)
-}
-
-// The buffers are tested first, as those of a store without events.
-pub(crate) fn open_text(text: &[u8], clocks: &[u8], held: &[u16], order: &[u8]) -> ReadAnswer
-    ensures { λ r. ⌜ readOutcome r (now (clocks .entry)) (now (held .entry)) (now (order .entry)) ≡ beginning (now (text .entry)) (now (clocks .entry)) (now (held .entry)) (now (order .entry)) ⌝ }
-{
-    let smallest = Record {
-        tablets: 1,
-        events: 0,
-    };
-    let sizes = store::check(smallest, clocks, held, order);
-    let Verdict::Passed = sizes else {
-        return not_read(Refusal::ShortBuffer, 0);
-    };
-    let Number::Value(n) = number_line(text, &TABLETS, 255) else {
-        return not_read(Refusal::FaultyLine, 1);
+    let Number::Value(n) = number_line(&src[at..], &TABLETS, 255) else {
+        return halt(begun(), Verdict::Refused(Refusal::FaultyLine), at, line);
     };
     let opened = store::open(n as u8);
     let verdict = opened.verdict;
-    let Verdict::Passed = verdict else {
-        return not_read(Refusal::NoSuchTabletCount, 1);
-    };
     let record = opened.record;
-    ReadAnswer {
+    let Verdict::Passed = verdict else {
+        return halt(begun(), verdict, at, line);
+    };
+    let used = line_length(&src[at..]) + 1;
+    Step {
+        more: true,
+        at: at + used,
+        line: line + 1,
         verdict,
-        line: 0,
         record,
+        tallies: [0u8; 8],
+        opened: true,
     }
 }

@@ -16,6 +16,7 @@ use cuts::Listed;
 use cuts::Listing;
 use model::Cut;
 use model::Job;
+use model::PieceNumber;
 use model::Place;
 use model::Position;
 use model::Question;
@@ -253,7 +254,15 @@ fn call_gather(
         return nothing();
     }
     let position = Position(low_word(request.p));
-    let gathered = cuts::gather(record, clocks, held, order, position, &mut out[..length]);
+    let gathered = cuts::gather(
+        record,
+        clocks,
+        held,
+        order,
+        position,
+        position,
+        &mut out[..length],
+    );
     let answer = gathered.answer;
     plain(listing_word(answer), gathered.written as u64, 0)
 }
@@ -303,7 +312,7 @@ fn call_write(
     if out.len() < length {
         return nothing();
     }
-    let piece = Position(low_word(request.p));
+    let piece = PieceNumber(low_word(request.p));
     let written = text::write(record, clocks, held, order, piece, &mut out[..length]);
     let verdict = written.verdict;
     plain(verdict_word(verdict), written.length as u64, 0)

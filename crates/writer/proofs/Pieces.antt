@@ -1,10 +1,11 @@
 -- The pieces of a sound store's text: where the event at a position lies, and what putting its lines together gives.
-use mathlib.Core.Path.{_≡_, sym, ap, _∙_}
-use mathlib.Core.Logic.{_≢_}
+use mathlib.Core.Path.{_≡_, refl, sym, ap, _∙_}
+use mathlib.Core.Logic.{_≢_, by-cases}
 use mathlib.Core.Bool.{Bool, cond}
 use mathlib.Core.List.{List, _++_}
 use Prim.Native.Nat.{ℕ, _+_, _-_, _*_, _≤_, _<_}
 use native.Mathlib.Omega.{arith}
+use native.Mathlib.Decide.{ℕ-discrete}
 use borrow.Author.Tests.{eq-eqb, ne-eqb, le-leb, lt-leb, lt-ltb, le-ltb}
 use lib.Dec.{leb, ltb}
 use lib.ListN.{length, getD, take, drop}
@@ -141,6 +142,17 @@ module _ (s : Store) (p : ℕ) (out : List ℕ) where
       ap (λ (b : Bool). cond b done (refusedWith (writeRefusal s p (length out)))) (ne-eqb (writeRefusal s p (length out)) 0 other)
       ∙ ap refusedWith e
 
+  told-done : writeRefusal s p (length out) ≡ 0 → writing s p out ≡ done
+  unfolding writing
+  told-done none =
+      ap (λ (b : Bool). cond b done (refusedWith (writeRefusal s p (length out)))) (eq-eqb (writeRefusal s p (length out)) 0 none)
+
+  -- what is not refused is written
+  pub write-passed : writing s p out .refusal ≡ 0 → writing s p out ≡ done
+  write-passed none =
+      by-cases (ℕ-discrete (writeRefusal s p (length out)) 0) told-done
+      (λ some. let no : ⊥ = omega (arith, none, ap (λ (o : WriteOutcome). o .refusal) (told (writeRefusal s p (length out)) (omega arith) refl)) in absurd no)
+
   pub write-unsound : (k : ℕ) → k ≡ storeRefusal s → 1 ≤ storeRefusal s → refusedWith k ≡ writing s p out
   unfolding writeRefusal
   write-unsound k e h = ap refusedWith e ∙ sym (told (storeRefusal s) h (or-else-first (storeRefusal s) _ h))
@@ -163,9 +175,8 @@ module _ (s : Store) (p : ℕ) (out : List ℕ) where
           sym (told 14 (omega arith) (by-room ∙ ap (λ (b : Bool). cond b 14 0) (lt-ltb (length out) (length (pieceText s p)) h)))
 
       pub write-done : length (pieceText s p) ≤ length out → done ≡ writing s p out
-      unfolding writing
       write-done h =
-          sym (ap (λ (b : Bool). cond b done (refusedWith (writeRefusal s p (length out)))) (eq-eqb (writeRefusal s p (length out)) 0 (by-room ∙ ap (λ (b : Bool). cond b 14 0) (le-ltb (length out) (length (pieceText s p)) h))))
+          sym (told-done (by-room ∙ ap (λ (b : Bool). cond b 14 0) (le-ltb (length out) (length (pieceText s p)) h)))
 
       -- the piece as it was put together and copied
       pub write-copied : (piece : Piece) (exit : List ℕ) → piece ≡ grown emptyPiece (pieceText s p) → piece .length ≤ 64 → piece .length ≤ length out → exit ≡ sets out 0 (contents piece) → record { refusal = 0; length = piece .length; output = exit } ≡ writing s p out

@@ -1,7 +1,7 @@
 // A store written as text, piece by piece: each piece is put together by value, and copied where the output has room for it.
 mod writing;
 
-use model::Position;
+use model::PieceNumber;
 use model::Record;
 use model::Refusal;
 use model::Verdict;
@@ -23,7 +23,7 @@ pub fn write(
     clocks: &[u8],
     held: &[u16],
     order: &[u8],
-    piece: Position,
+    piece: PieceNumber,
     out: &mut [u8],
 ) -> WriteAnswer
     ensures { λ r. ⌜ written r (now (out .exit)) ≡ writing (storeOf «record» (now (clocks .entry)) (now (held .entry)) (now (order .entry))) (piece .0) (now (out .entry)) ⌝ }
@@ -43,7 +43,7 @@ pub fn write(
             length: 0,
         };
     }
-    let text = piece_of(record, clocks, held, order, at);
+    let text = piece_of(record, clocks, held, order, piece);
     let length = text.length;
     if out.len() < length {
         return WriteAnswer {

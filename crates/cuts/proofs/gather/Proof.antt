@@ -1,114 +1,71 @@
--- `gather`: each call is made with nothing written yet, since a listing that says "more" has filled the output.
-use mathlib.Core.Path.{_≡_, refl, sym, ap, ap₂, _∙_}
-use Prim.Native.Nat.{_+_, _-_, _*_, _≤_}
-use native.Mathlib.Omega.{arith}
+-- `gather`: of a store that its test refuses nothing is gathered; of a sound one the intervals are.
+use mathlib.Core.Path.{_≡_, ap, sym, _∙_}
+use Prim.Native.Nat.{ℕ}
+use Rattle.model.specs.Refusals.{verdictNumber}
+use Rattle.model.specs.Store.{Store, storeOf, storeRefusal}
+use Rattle.model.proofs.Refusals.{passed-zero, refused-some}
+use Rattle.store.proofs.Outcomes.{when-zero, when-some}
+use Rattle.cuts.specs.Gathering.{gatherIn, refusedGathering}
 use borrow.Author.Needs.{needs}
-use borrow.Rule.Slice.PartMut.{putMid}
-use lib.ListN.{length}
-use Rattle.model.specs.Lists.{zeros}
-use Rattle.model.specs.Store.{storeOf}
-use Rattle.cuts.specs.Listing.{listed, listing, gathered, gathering, fresh, ListOutcome, listingSaid}
-use Rattle.cuts.proofs.Gathering.{listing-fills, part-whole, put-whole, gathered-is}
 use Rattle.cuts.proofs.gather.Statement.{statement}
 use Rattle.cuts.proofs.gather.Tie as tie
 
-abbrev Inv-loop : tie.InvT-loop
-Inv-loop «record» clocks held order position out₀ place₀ written₀ out place written = (written ≡ 0) × (place ≡ fresh) × (out ≡ out₀)
+check-requires : tie.Need-check-requires
+check-requires c κs = search needs
 
-abbrev μ-loop : tie.MeasureT-loop
-μ-loop «record» clocks held order position out₀ place₀ written₀ out place written = 0
+enum-known-v : tie.Need-enum-known-v
+enum-known-v c = search needs
 
--- the call made at the loop's head is the listing from a place not begun into the whole output
-asked : (c : tie.After-list Inv-loop μ-loop) → listed (c .list .result) (c .list .last .1 .1 .1 .1 .1 .1 .0) ≡ listing (storeOf (c .before .before .before .before .before .before .before .args .«record») (c .before .before .before .before .before .before .before .args .clocks .now) (c .before .before .before .before .before .before .before .args .held .now) (c .before .before .before .before .before .before .before .args .order .now)) (c .before .before .before .before .before .before .before .args .position .0) fresh (c .before .before .before .before .before .before .before .args .out .now)
-asked c =
-    c .list .ensures
-    ∙ ap₂ (listing (storeOf (c .before .before .before .before .before .before .before .args .«record») (c .before .before .before .before .before .before .before .args .clocks .now) (c .before .before .before .before .before .before .before .args .held .now) (c .before .before .before .before .before .before .before .args .order .now)) (c .before .before .before .before .before .before .before .args .position .0)) (c .before .before .loop .inv .1) (part-whole (c .before .before .loop .out) (c .before .before .loop .written) (c .before .before .loop .inv .0) ∙ c .before .before .loop .inv .2)
+refused-gathering-requires : tie.Need-refused-gathering-requires
+refused-gathering-requires c κs = search needs
 
-room-kept : (c : tie.After-list Inv-loop μ-loop) → 8 * c .list .result .written ≤ length (c .before .before .before .before .before .before .before .args .out .now)
-room-kept c =
-    omega (arith, ap (λ (o : ListOutcome). o .count) (asked c), listing-fills (storeOf (c .before .before .before .before .before .before .before .args .«record») (c .before .before .before .before .before .before .before .args .clocks .now) (c .before .before .before .before .before .before .before .args .held .now) (c .before .before .before .before .before .before .before .args .order .now)) (c .before .before .before .before .before .before .before .args .position .0) fresh (c .before .before .before .before .before .before .before .args .out .now) .within)
-
-answered : (c : tie.After-list Inv-loop μ-loop) → gathered (record { answer = c .list .result .answer; written = c .before .before .loop .written + c .list .result .written }) (putMid (8 * c .before .before .loop .written) (length (c .before .before .loop .out) - 8 * c .before .before .loop .written) (c .before .before .loop .out) (c .list .last .1 .1 .1 .1 .1 .1 .0)) ≡ gathering (storeOf (c .before .before .before .before .before .before .before .args .«record») (c .before .before .before .before .before .before .before .args .clocks .now) (c .before .before .before .before .before .before .before .args .held .now) (c .before .before .before .before .before .before .before .args .order .now)) (c .before .before .before .before .before .before .before .args .position .0) (c .before .before .before .before .before .before .before .args .out .now)
-answered c =
-    gathered-is (storeOf (c .before .before .before .before .before .before .before .args .«record») (c .before .before .before .before .before .before .before .args .clocks .now) (c .before .before .before .before .before .before .before .args .held .now) (c .before .before .before .before .before .before .before .args .order .now)) (c .before .before .before .before .before .before .before .args .position .0) (c .before .before .before .before .before .before .before .args .out .now) (c .list .result) fresh (c .before .before .loop .written) (c .before .before .before .before .before .before .before .args .out .now) _ _ (c .before .before .loop .inv .0) refl refl (asked c)
-    (put-whole (c .before .before .loop .out) (c .list .last .1 .1 .1 .1 .1 .1 .0) (c .before .before .loop .written) (c .before .before .loop .inv .0))
-
-loop-holds : tie.Need-loop-holds Inv-loop μ-loop
-unfolding zeros
-loop-holds c = (refl, refl, refl)
-
-mul-from : tie.Need-mul-from Inv-loop μ-loop
-mul-from c = omega (arith, c .loop .inv .0)
-
-sub-list : tie.Need-sub-list Inv-loop μ-loop
-sub-list c = omega (arith, c .loop .inv .0)
-
-part-list-start : tie.Need-part-list-start Inv-loop μ-loop
-part-list-start c = omega (arith, c .loop .inv .0)
-
-part-list-end : tie.Need-part-list-end Inv-loop μ-loop
-part-list-end c = omega arith
-
-list-requires : tie.Need-list-requires Inv-loop μ-loop
-list-requires c κs = tt
-
-add-written : tie.Need-add-written Inv-loop μ-loop
-add-written c = omega (arith, c .before .before .before .before .before .loop .inv .0, room-kept (c .before .before .before), c .before .before .before .before .before .before .before .before .before .before .good)
-
-enum-told : tie.Need-enum-told Inv-loop μ-loop
+enum-told : tie.Need-enum-told
 enum-told c = search needs
 
-same-length : tie.Need-same-length Inv-loop μ-loop
-same-length c = c .before .before .before .before .out .given .1 ∙ ap length (c .before .before .before .before .before .before .before .loop .inv .2)
+-- the store that was tested
+abbrev tested : tie.Start → Store
+tested c = storeOf (c .args .«record») (c .args .clocks .now) (c .args .held .now) (c .args .order .now)
 
-returns : tie.Need-returns Inv-loop μ-loop
-returns c = answered (c .before .before .before .before .before)
+abbrev start : tie.After-enum-told → tie.Start
+start c = c .before .before .before .before .before .before .before
 
-mul-if1 : tie.Need-mul-if1 Inv-loop μ-loop
-mul-if1 c = omega (arith, c .before .before .before .before .before .before .before .before .loop .inv .0, room-kept (c .before .before .before .before .before .before), c .before .before .before .before .before .before .before .before .before .before .before .before .before .good)
+-- where the check passed, nothing refuses the store
+passed : (c : tie.After-enum-told) → storeRefusal (tested (start c)) ≡ 0
+passed c = passed-zero (c .before .before .check .result) _ (c .before .before .check .ensures) (c .enum-told .given .1)
 
-sub-if1 : tie.Need-sub-if1 Inv-loop μ-loop
-sub-if1 c = omega (arith, c .before .before .before .before .before .before .before .before .loop .inv .0, room-kept (c .before .before .before .before .before .before), c .before .before .before .before .before .out .given .1, ap length (c .before .before .before .before .before .before .before .before .loop .inv .2))
+gather-intervals-requires : tie.Need-gather-intervals-requires
+gather-intervals-requires c κs = record { held = start (c .before) .args .held .now; none = passed (c .before) }
 
-same-length-2 : tie.Need-same-length-2 Inv-loop μ-loop
-same-length-2 c = c .before .before .before .before .before .before .out .given .1 ∙ ap length (c .before .before .before .before .before .before .before .before .before .loop .inv .2)
+returns : tie.Need-returns
+returns c =
+    let begin = c .before .before .before .before .before .before .before .before .before in
+    let out = begin .args .out .now in
+    let number = sym (ap verdictNumber (c .before .before .v .given .1)) ∙ c .before .before .before .before .check .ensures in
+    c .refused-gathering .ensures out
+    ∙ ap (λ (k : ℕ). refusedGathering k out) number
+    ∙ sym (when-some (storeRefusal (tested begin)) (gatherIn (tested begin) (begin .args .first .0) (begin .args .last .0) out) (refusedGathering (storeRefusal (tested begin)) out)
+    (refused-some (c .before .before .before .before .check .result) _ _ (c .before .before .before .before .check .ensures) (c .before .before .v .given .1)))
 
-returns-2 : tie.Need-returns-2 Inv-loop μ-loop
-returns-2 c = answered (c .before .before .before .before .before .before .before)
+same-length : tie.Need-same-length
+same-length c = search needs
 
--- where more was said and there is room, something is wrong: the listing fills what it is lent
-no-room : (c : tie.Else1 Inv-loop μ-loop) → ⊥
-no-room c =
-    let fills = listing-fills (storeOf (c .before .before .before .before .before .before .before .before .before .before .before .before .before .before .args .«record») (c .before .before .before .before .before .before .before .before .before .before .before .before .before .before .args .clocks .now) (c .before .before .before .before .before .before .before .before .before .before .before .before .before .before .args .held .now) (c .before .before .before .before .before .before .before .before .before .before .before .before .before .before .args .order .now)) (c .before .before .before .before .before .before .before .before .before .before .before .before .before .before .args .position .0) fresh (c .before .before .before .before .before .before .before .before .before .before .before .before .before .before .args .out .now) in
-    let counted = ap (λ (o : ListOutcome). o .count) (asked (c .before .before .before .before .before .before .before)) in
-    let said = sym (ap (λ (o : ListOutcome). o .said) (asked (c .before .before .before .before .before .before .before))) ∙ ap listingSaid (c .before .enum-told .given .1) in
-    omega (arith, c .if1 .left, c .before .before .before .before .before .before .before .before .before .loop .inv .0, counted, fills .full said, c .before .before .before .before .before .before .out .given .1, ap length (c .before .before .before .before .before .before .before .before .before .loop .inv .2))
-
-loop-less : tie.Need-loop-less Inv-loop μ-loop
-loop-less c = absurd (no-room c)
-
-loop-again : tie.Need-loop-again Inv-loop μ-loop
-loop-again c = absurd (no-room c)
+returns-2 : tie.Need-returns-2
+returns-2 c =
+    let asked = c .before .before .before .before in
+    let begin = start asked in
+    let out = begin .args .out .now in
+    c .before .before .gather-intervals .ensures (begin .args .held .now)
+    ∙ sym (when-zero (storeRefusal (tested begin)) (gatherIn (tested begin) (begin .args .first .0) (begin .args .last .0) out) (refusedGathering (storeRefusal (tested begin)) out) (passed asked))
 
 pub gather-spec : {M : Type 1} → statement M
 gather-spec =
     tie.close
     (tie.spec
-    Inv-loop
-    μ-loop
-    loop-holds
-    mul-from
-    sub-list
-    part-list-start
-    part-list-end
-    list-requires
-    add-written
+    check-requires
+    enum-known-v
+    refused-gathering-requires
     enum-told
-    same-length
+    gather-intervals-requires
     returns
-    mul-if1
-    sub-if1
-    same-length-2
-    returns-2
-    loop-less
-    loop-again)
+    same-length
+    returns-2)

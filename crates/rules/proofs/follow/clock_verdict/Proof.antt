@@ -2,12 +2,19 @@
 use mathlib.Core.Path.{_≡_, sym, _∙_}
 use mathlib.Core.Bool.{true}
 use borrow.Author.Tests.{eq-eqb, ne-eqb, not-true, not-false}
+use Rattle.model.specs.Numbers.{column}
 use Rattle.model.specs.Follow.{othersWithin, clockRefusal}
 use Rattle.model.proofs.Tests.{from-true}
 use Rattle.model.proofs.Follow.{last-known-bounded}
 use borrow.Author.Needs.{needs}
 use Rattle.rules.proofs.follow.clock_verdict.Statement.{statement}
 use Rattle.rules.proofs.follow.clock_verdict.Tie as tie
+
+sub-own : tie.Need-sub-own
+sub-own c = search needs
+
+cast-own : tie.Need-cast-own
+cast-own c = search needs
 
 shared-slice-read-if1 : tie.Need-shared-slice-read-if1
 shared-slice-read-if1 c = search needs
@@ -35,14 +42,17 @@ returns-2 c =
 
 covers-known-requires : tie.Need-covers-known-requires
 covers-known-requires c κs =
-    let a = c .before .before .before .before .before .before .args in
-    let p = c .before .before .before .before .before .before .pre in
-    let fits : othersWithin (a .n) (a .t3) (a .own) (a .clock .now) ≡ true = sym (c .before .others-within .ensures) ∙ not-false (c .before .others-within .result) (c .if2 .left) in
-    record {
-      full = p .0 .full;
-      long = p .0 .long;
-      stored = λ j h. last-known-bounded (a .n) (a .t3) (a .own) (a .clock .now) (from-true (othersWithin (a .n) (a .t3) (a .own) (a .clock .now)) fits) (p .0 .bounded) j h;
-    }
+    let a = c .before .before .before .before .before .before .before .args in
+    let p = c .before .before .before .before .before .before .before .pre in
+    let own = column (a .tablet) in
+    let fits : othersWithin (a .n) (a .t3) own (a .clock .now) ≡ true = sym (c .before .others-within .ensures) ∙ not-false (c .before .others-within .result) (c .if2 .left) in (
+      p .1,
+      record {
+        full = p .0 .full;
+        long = p .0 .long;
+        stored = λ j h. last-known-bounded (a .n) (a .t3) own (a .clock .now) (from-true (othersWithin (a .n) (a .t3) own (a .clock .now)) fits) (p .0 .bounded) j h;
+      },
+    )
 
 returns-3 : tie.Need-returns-3
 unfolding clockRefusal
@@ -66,6 +76,8 @@ pub clock-verdict-spec : {M : Type 1} → statement M
 clock-verdict-spec =
     tie.close
     (tie.spec
+    sub-own
+    cast-own
     shared-slice-read-if1
     array-read-if1
     add-if1

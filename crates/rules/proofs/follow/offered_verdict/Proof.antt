@@ -20,22 +20,16 @@ enum-told-2 : tie.Need-enum-told-2
 enum-told-2 c = search needs
 
 -- where the tablet passed, it is one of the n and has room
-tablet-passed : (c : tie.After-enum-told2) → tabletRefusal (c .before .before .before .before .before .args .n) (c .before .before .before .before .before .args .tallies) (c .before .before .before .before .before .args .tablet) ≡ 0
+tablet-passed : (c : tie.After-enum-told2) → tabletRefusal (c .before .before .before .before .before .args .n) (c .before .before .before .before .before .args .tallies) (c .before .before .before .before .before .args .tablet .0) ≡ 0
 tablet-passed c = passed-zero (c .before .before .tablet-verdict .result) _ (c .before .before .tablet-verdict .ensures) (c .enum-told2 .given .1)
 
-placed : (c : tie.After-enum-told2) → (1 ≤ c .before .before .before .before .before .args .tablet) × (c .before .before .before .before .before .args .tablet ≤ c .before .before .before .before .before .args .n) × (at (c .before .before .before .before .before .args .tallies) (c .before .before .before .before .before .args .tablet - 1) < 254)
+placed : (c : tie.After-enum-told2) → (1 ≤ c .before .before .before .before .before .args .tablet .0) × (c .before .before .before .before .before .args .tablet .0 ≤ c .before .before .before .before .before .args .n) × (at (c .before .before .before .before .before .args .tallies) (c .before .before .before .before .before .args .tablet .0 - 1) < 254)
 placed c = tablet-holds _ _ _ (tablet-passed c)
-
-sub-own : tie.Need-sub-own
-sub-own c = placed c .0
-
-cast-own : tie.Need-cast-own
-cast-own c = search needs
 
 clock-verdict-requires : tie.Need-clock-verdict-requires
 clock-verdict-requires c κs =
     let p = c .before .before .before .before .before .pre in
-    (p .0, omega (arith, placed c .0, placed c .1, p .1), placed c .2)
+    (p .0, placed c .0, omega (arith, placed c .1, p .1), placed c .2)
 
 returns : tie.Need-returns
 unfolding followRefusal
@@ -54,8 +48,6 @@ offered-verdict-spec =
     tablet-verdict-requires
     enum-told
     enum-told-2
-    sub-own
-    cast-own
     clock-verdict-requires
     returns
     returns-2)

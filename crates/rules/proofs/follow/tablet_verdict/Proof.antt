@@ -11,7 +11,7 @@ returns c = simp (eq-eqb _ _ (c .if1 .taken))
 
 returns-2 : tie.Need-returns-2
 unfolding tabletRefusal
-returns-2 c = simp (ne-eqb _ _ (c .before .if1 .left), lt-ltb _ _ (c .if2 .taken))
+returns-2 c = simp (ne-eqb _ _ (c .before .before .if1 .left), lt-ltb _ _ (c .if2 .taken))
 
 sub-own : tie.Need-sub-own
 sub-own c = search needs
@@ -24,11 +24,13 @@ array-read-if3 c = search needs
 
 returns-3 : tie.Need-returns-3
 unfolding tabletRefusal
-returns-3 c = simp (ne-eqb _ _ (c .before .before .if1 .left), le-ltb _ _ (c .before .if2 .left), le-leb _ _ (c .if3 .taken))
+returns-3 c =
+    simp (ne-eqb _ _ (c .before .before .before .before .if1 .left), le-ltb _ _ (c .before .before .if2 .left), le-leb _ _ (c .if3 .taken))
 
 returns-4 : tie.Need-returns-4
 unfolding tabletRefusal
-returns-4 c = simp (ne-eqb _ _ (c .before .before .if1 .left), le-ltb _ _ (c .before .if2 .left), lt-leb _ _ (c .if3 .left))
+returns-4 c =
+    simp (ne-eqb _ _ (c .before .before .before .before .if1 .left), le-ltb _ _ (c .before .before .if2 .left), lt-leb _ _ (c .if3 .left))
 
 pub tablet-verdict-spec : {M : Type 1} → statement M
 tablet-verdict-spec =

@@ -3,6 +3,7 @@ use mathlib.Core.Path.{_≡_, refl, sym, ap, _∙_}
 use mathlib.Core.List.{List}
 use Prim.Native.Nat.{ℕ, suc, _+_, _-_, _≤_, _<_}
 use native.Mathlib.Omega.{arith}
+use borrow.Author.Needs.{needs}
 use lib.ListN.{getD, set}
 use Rattle.model.specs.Lists.{at, eight}
 use Rattle.model.specs.Follow.{tallies}
@@ -18,18 +19,21 @@ abbrev μ-loop : tie.MeasureT-loop
 μ-loop order p counts₀ q₀ counts q = p - q
 
 -- the byte names a tablet
-positive : (c : tie.In-loop Inv-loop μ-loop) → 1 ≤ getD (c .before .before .args .order .now) (c .before .loop .q) 0
-positive c = c .before .before .pre .positive (c .before .loop .q) (c .loop-test .taken)
+positive : (c : tie.In-loop Inv-loop μ-loop) → 1 ≤ getD (c .before .before .before .args .order .now) (c .before .loop .q) 0
+positive c = c .before .before .before .pre .positive (c .before .loop .q) (c .loop-test .taken)
 
-fits : (c : tie.In-loop Inv-loop μ-loop) → getD (c .before .before .args .order .now) (c .before .loop .q) 0 - 1 < 8
-fits c = omega (arith, positive c, c .before .before .pre .listed (c .before .loop .q) (c .loop-test .taken))
+fits : (c : tie.In-loop Inv-loop μ-loop) → getD (c .before .before .before .args .order .now) (c .before .loop .q) 0 - 1 < 8
+fits c = omega (arith, positive c, c .before .before .before .pre .listed (c .before .loop .q) (c .loop-test .taken))
+
+cast-p : tie.Need-cast-p Inv-loop μ-loop
+cast-p c = search needs
 
 loop-holds : tie.Need-loop-holds Inv-loop μ-loop
 unfolding tallies eight
 loop-holds c = (omega arith, refl)
 
-shared-slice-read-tablet : tie.Need-shared-slice-read-tablet Inv-loop μ-loop
-shared-slice-read-tablet c = omega (arith, c .before .before .before .pre .long)
+shared-slice-read-byte : tie.Need-shared-slice-read-byte Inv-loop μ-loop
+shared-slice-read-byte c = omega (arith, c .before .before .before .before .pre .long)
 
 sub-own : tie.Need-sub-own Inv-loop μ-loop
 sub-own c = positive (c .before)
@@ -42,9 +46,9 @@ array-read-counts c = fits (c .before)
 
 add-counts : tie.Need-add-counts Inv-loop μ-loop
 add-counts c =
-    let a = c .before .before .before .args in
+    let a = c .before .before .before .before .args in
     let own = getD (a .order .now) (c .before .before .loop .q) 0 - 1 in
-    omega (arith, ap (λ (l : List ℕ). at l own) (c .before .before .loop .inv .1), at-tallies (a .order .now) (c .before .before .loop .q) own (fits (c .before)), c .before .before .before .pre .bounded (suc (c .before .before .loop .q)) own (omega arith), tally-own (a .order .now) (c .before .before .loop .q) own (omega (arith, positive (c .before))))
+    omega (arith, ap (λ (l : List ℕ). at l own) (c .before .before .loop .inv .1), at-tallies (a .order .now) (c .before .before .loop .q) own (fits (c .before)), c .before .before .before .before .pre .bounded (suc (c .before .before .loop .q)) own (omega arith), tally-own (a .order .now) (c .before .before .loop .q) own (omega (arith, positive (c .before))))
 
 array-write-counts : tie.Need-array-write-counts Inv-loop μ-loop
 array-write-counts c = fits (c .before)
@@ -57,7 +61,7 @@ loop-less c = omega arith
 
 loop-again : tie.Need-loop-again Inv-loop μ-loop
 loop-again c =
-    let a = c .before .before .before .args in
+    let a = c .before .before .before .before .args in
     let q = c .before .before .loop .q in
     let own = getD (a .order .now) q 0 - 1 in (
       omega arith,
@@ -67,8 +71,9 @@ loop-again c =
 
 returns : tie.Need-returns Inv-loop μ-loop
 returns c =
-    let e : c .before .loop .q ≡ c .before .before .args .p = omega arith in
-    c .before .loop .inv .1 ∙ ap (tallies (c .before .before .args .order .now)) e
+    let a = c .before .before .before .args in
+    let e : c .before .loop .q ≡ a .position .0 = omega arith in
+    c .before .loop .inv .1 ∙ ap (tallies (a .order .now)) e
 
 pub tallies-after-spec : {M : Type 1} → statement M
 tallies-after-spec =
@@ -76,8 +81,9 @@ tallies-after-spec =
     (tie.spec
     Inv-loop
     μ-loop
+    cast-p
     loop-holds
-    shared-slice-read-tablet
+    shared-slice-read-byte
     sub-own
     cast-own
     array-read-counts

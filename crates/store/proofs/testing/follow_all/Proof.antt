@@ -19,9 +19,6 @@ use Rattle.model.proofs.Total.{tally-bounded}
 use Rattle.store.proofs.Laws.{tallies-raised, verdict-at, passes-at, stops-at}
 use Rattle.store.proofs.testing.follow_all.Statement.{statement}
 use Rattle.store.proofs.testing.follow_all.Tie as tie
-use Rattle.store.proofs.testing.follow_all.Reads as reads
-use Rattle.store.proofs.testing.follow_all.Lts as lts
-use Rattle.rules.proofs.follow.stored_verdict.Reads as stored-verdict-reads
 
 abbrev Inv-loop : tie.InvT-loop
 Inv-loop n events clocks order counts₀ p₀ counts p = (p ≤ events) × T (followTo n (clockAt clocks) order p) × (counts ≡ tallies order p)
@@ -29,7 +26,6 @@ Inv-loop n events clocks order counts₀ p₀ counts p = (p ≤ events) × T (fo
 abbrev μ-loop : tie.MeasureT-loop
 μ-loop n events clocks order counts₀ p₀ counts p = events - p
 
--- src/testing.rt:26:5
 -- what the turn's call found is the verdict on the event at the position
 verdict-here : (c : tie.After-stored-verdict Inv-loop μ-loop) → verdictNumber (c .stored-verdict .result) ≡ followRefusal (c .before .before .before .before .before .before .args .n) (clockAt (c .before .before .before .before .before .before .args .clocks .now)) (tallies (c .before .before .before .before .before .before .args .order .now) (c .before .before .before .loop .p)) (getD (c .before .before .before .before .before .before .args .order .now) (c .before .before .before .loop .p) 0) (clockOf (clockAt (c .before .before .before .before .before .before .args .clocks .now)) (eventAt (c .before .before .before .before .before .before .args .order .now) (c .before .before .before .loop .p)))
 verdict-here c =
@@ -58,11 +54,9 @@ loop-holds : tie.Need-loop-holds Inv-loop μ-loop
 unfolding tallies eight
 loop-holds c = (omega arith, tt, refl)
 
--- src/testing.rt:27:22
-shared-slice-read-tablet : tie.Need-shared-slice-read-tablet Inv-loop μ-loop
-shared-slice-read-tablet c = omega arith
+shared-slice-read-byte : tie.Need-shared-slice-read-byte Inv-loop μ-loop
+shared-slice-read-byte c = omega arith
 
--- src/testing.rt:28:13
 stored-verdict-requires : tie.Need-stored-verdict-requires Inv-loop μ-loop
 stored-verdict-requires c κs =
     let l = c .before .before .loop in
@@ -76,11 +70,9 @@ stored-verdict-requires c κs =
 enum-told : tie.Need-enum-told Inv-loop μ-loop
 enum-told c = search needs
 
--- src/testing.rt:32:17
 enum-told-2 : tie.Need-enum-told-2 Inv-loop μ-loop
 enum-told-2 c = search needs
 
--- src/testing.rt:30:13
 returns : tie.Need-returns Inv-loop μ-loop
 returns c =
     let l = c .before .before .before .before .before .loop in
@@ -93,35 +85,27 @@ returns c =
       tally = λ e. absurd (false≢true e);
     }
 
--- src/testing.rt:35:20
 sub-own : tie.Need-sub-own Inv-loop μ-loop
 sub-own c = follows c .positive
 
--- src/testing.rt:35:19
 cast-own : tie.Need-cast-own Inv-loop μ-loop
 cast-own c = omega (arith, column-fits c)
 
--- src/testing.rt:36:23
 array-read-counts : tie.Need-array-read-counts Inv-loop μ-loop
 array-read-counts c = column-fits c
 
--- src/testing.rt:36:23
 add-counts : tie.Need-add-counts Inv-loop μ-loop
 add-counts c = omega (arith, room c)
 
--- src/testing.rt:36:9
 array-write-counts : tie.Need-array-write-counts Inv-loop μ-loop
 array-write-counts c = column-fits c
 
--- src/testing.rt:37:9
 add-p : tie.Need-add-p Inv-loop μ-loop
 add-p c = omega arith
 
--- src/testing.rt:26:5
 loop-less : tie.Need-loop-less Inv-loop μ-loop
 loop-less c = omega arith
 
--- src/testing.rt:26:5
 loop-again : tie.Need-loop-again Inv-loop μ-loop
 loop-again c =
     let l = c .before .before .before .before .before .loop in
@@ -134,7 +118,6 @@ loop-again c =
           ∙ sym (tallies-raised (a .order .now) (l .p) own (column-fits c) (omega (arith, follows c .positive))),
     )
 
--- src/testing.rt:20:1
 returns-2 : tie.Need-returns-2 Inv-loop μ-loop
 returns-2 c =
     let e : c .before .loop .p ≡ c .before .before .before .before .args .events = omega arith in
@@ -152,7 +135,7 @@ follow-all-spec =
     Inv-loop
     μ-loop
     loop-holds
-    shared-slice-read-tablet
+    shared-slice-read-byte
     stored-verdict-requires
     enum-told
     enum-told-2

@@ -26,14 +26,18 @@ cast-own c = search needs
 array-read-count : tie.Need-array-read-count
 array-read-count c = own-fits (st (c .before .before .before .before)) (c .before .before .before .before .args .t5) (c .before .before .before .before .args .event) (c .before .before .before .before .pre)
 
-cast-slot-of : tie.Need-cast-slot-of
-cast-slot-of c = search needs
-
-add-slot-of : tie.Need-add-slot-of
-add-slot-of c = omega (arith, count-room (st (c .before .before .before .before)) (c .before .before .before .before .args .t5) (c .before .before .before .before .args .event) (c .before .before .before .before .pre))
+add-number : tie.Need-add-number
+add-number c = omega (arith, count-room (st (c .before .before .before .before)) (c .before .before .before .before .args .t5) (c .before .before .before .before .args .event) (c .before .before .before .before .pre))
 
 slot-of-requires : tie.Need-slot-of-requires
-slot-of-requires c κs = (own-fits (st (c .before .before .before .before)) (c .before .before .before .before .args .t5) (c .before .before .before .before .args .event) (c .before .before .before .before .pre), omega arith, omega (arith, count-room (st (c .before .before .before .before)) (c .before .before .before .before .args .t5) (c .before .before .before .before .args .event) (c .before .before .before .before .pre)))
+slot-of-requires c κs =
+    let home = c .before .before .before .before in
+    let own = own-fits (st home) (home .args .t5) (home .args .event) (home .pre) in (
+      tablet-positive (st home) (home .args .t5) (home .args .event) (home .pre),
+      omega (arith, own),
+      omega arith,
+      omega (arith, count-room (st home) (home .args .t5) (home .args .event) (home .pre)),
+    )
 
 mul-write-eight : tie.Need-mul-write-eight
 mul-write-eight c = omega (arith, home-below (c .before .before))
@@ -53,14 +57,11 @@ cast-next c = search needs
 slice-write-order : tie.Need-slice-write-order
 slice-write-order c = omega (arith, event-room (st (c .before .before .before .before .before .before .before .before .before .before .before)) (c .before .before .before .before .before .before .before .before .before .before .before .args .t5) (c .before .before .before .before .before .before .before .before .before .before .before .args .event) (c .before .before .before .before .before .before .before .before .before .before .before .pre), full (c .before .before .before .before .before .before .before .before .before .before .before) .order)
 
-add-counts : tie.Need-add-counts
-add-counts c = omega (arith, count-room (st (c .before .before .before .before .before .before .before .before .before .before .before)) (c .before .before .before .before .before .before .before .before .before .before .before .args .t5) (c .before .before .before .before .before .before .before .before .before .before .before .args .event) (c .before .before .before .before .before .before .before .before .before .before .before .pre))
-
 array-write-counts : tie.Need-array-write-counts
 array-write-counts c = own-fits (st (c .before .before .before .before .before .before .before .before .before .before .before)) (c .before .before .before .before .before .before .before .before .before .before .before .args .t5) (c .before .before .before .before .before .before .before .before .before .before .before .args .event) (c .before .before .before .before .before .before .before .before .before .before .before .pre)
 
-add-t30 : tie.Need-add-t30
-add-t30 c = omega (arith, event-room (st (c .before .before .before .before .before .before .before .before .before .before .before .before)) (c .before .before .before .before .before .before .before .before .before .before .before .before .args .t5) (c .before .before .before .before .before .before .before .before .before .before .before .before .args .event) (c .before .before .before .before .before .before .before .before .before .before .before .before .pre))
+add-events : tie.Need-add-events
+add-events c = omega (arith, event-room (st (c .before .before .before .before .before .before .before .before .before .before .before .before)) (c .before .before .before .before .before .before .before .before .before .before .before .before .args .t5) (c .before .before .before .before .before .before .before .before .before .before .before .before .args .event) (c .before .before .before .before .before .before .before .before .before .before .before .before .pre))
 
 same-length : tie.Need-same-length
 same-length c = search needs
@@ -82,8 +83,7 @@ write-event-spec =
     sub-own
     cast-own
     array-read-count
-    cast-slot-of
-    add-slot-of
+    add-number
     slot-of-requires
     mul-write-eight
     write-eight-requires
@@ -91,9 +91,8 @@ write-event-spec =
     slice-write-held
     cast-next
     slice-write-order
-    add-counts
     array-write-counts
-    add-t30
+    add-events
     same-length
     same-length-2
     same-length-3

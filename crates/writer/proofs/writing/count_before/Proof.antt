@@ -9,10 +9,10 @@ use Rattle.writer.proofs.writing.count_before.Statement.{statement}
 use Rattle.writer.proofs.writing.count_before.Tie as tie
 
 abbrev Inv-loop : tie.InvT-loop
-Inv-loop order count tablet found₀ i₀ found i = (i ≤ count) × (found ≤ i) × (found ≡ tally order i (tablet - 1))
+Inv-loop order count byte found₀ i₀ found i = (i ≤ count) × (found ≤ i) × (found ≡ tally order i (byte - 1))
 
 abbrev μ-loop : tie.MeasureT-loop
-μ-loop order count tablet found₀ i₀ found i = count - i
+μ-loop order count byte found₀ i₀ found i = count - i
 
 loop-holds : tie.Need-loop-holds Inv-loop μ-loop
 loop-holds c = (omega arith, omega arith, refl)
@@ -35,14 +35,14 @@ loop-again c =
     let a = c .before .before .before .before .args in (
       omega arith,
       ⊎-elim (λ w. omega arith) (λ w. omega arith) (c .if1 .came),
-      ⊎-elim (λ w. w .1 ∙ count-own (a .order .now) (l .i) (a .tablet) (l .found) (c .before .before .before .before .pre .1) (l .inv .2) (w .0 .taken))
-          (λ w. w .1 ∙ count-other (a .order .now) (l .i) (a .tablet) (l .found) (c .before .before .before .before .pre .1) (l .inv .2) (w .0 .left)) (c .if1 .came),
+      ⊎-elim (λ w. w .1 ∙ count-own (a .order .now) (l .i) (a .tablet .0) (l .found) (c .before .before .before .before .pre .1) (l .inv .2) (w .0 .taken))
+          (λ w. w .1 ∙ count-other (a .order .now) (l .i) (a .tablet .0) (l .found) (c .before .before .before .before .pre .1) (l .inv .2) (w .0 .left)) (c .if1 .came),
     )
 
 returns : tie.Need-returns Inv-loop μ-loop
 returns c =
     let e : c .before .loop .i ≡ c .before .before .args .count = omega arith in
-    c .before .loop .inv .2 ∙ ap (λ (p : ℕ). tally (c .before .before .args .order .now) p (c .before .before .args .tablet - 1)) e
+    c .before .loop .inv .2 ∙ ap (λ (p : ℕ). tally (c .before .before .args .order .now) p (c .before .before .args .tablet .0 - 1)) e
 
 pub count-before-spec : {M : Type 1} → statement M
 count-before-spec =

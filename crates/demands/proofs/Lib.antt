@@ -1,0 +1,6 @@
+-- The theorems about several calls, and the laws that they rest on.
+pub mod Rising
+pub mod Going
+pub mod Gathered
+pub mod Prefix
+pub mod Theorems

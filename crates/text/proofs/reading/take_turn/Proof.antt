@@ -1,0 +1,56 @@
+-- `take_turn`: a turn of either kind.
+use mathlib.Core.Path.{sym, ap, _∙_}
+use mathlib.Core.Bool.{Bool}
+use Prim.Native.Nat.{ℕ, _+_}
+use borrow.Author.Needs.{needs}
+use Rattle.model.specs.Store.{Store, storeOf}
+use Rattle.text.specs.Steps.{feeds, readHere}
+use Rattle.text.proofs.Halts.{taken-as}
+use Rattle.text.proofs.reading.take_turn.Statement.{statement}
+use Rattle.text.proofs.reading.take_turn.Tie as tie
+
+abbrev st : tie.Start → Store
+st c = storeOf (c .args .last .«record») (c .args .clocks .now) (c .args .held .now) (c .args .order .now)
+
+event-turn-requires : tie.Need-event-turn-requires
+event-turn-requires c κs =
+    let s = c .before .before .before .before .before .before .before .before in
+    record { placed = s .pre .placed; append = s .pre .append (c .before .before .before .if1 .taken) }
+
+same-length : tie.Need-same-length
+same-length c = search needs
+
+same-length-2 : tie.Need-same-length-2
+same-length-2 c = search needs
+
+same-length-3 : tie.Need-same-length-3
+same-length-3 c = search needs
+
+returns : tie.Need-returns
+returns c =
+    let s = c .before .before .before .before .before .before .before .before .before .before .before .before .before .before .before in
+    taken-as (s .args .src .now) (s .args .at) _ _ _ _ _ _ (sym (ap (λ (opened : Bool). readHere (s .args .src .now) opened (s .args .at) (s .args .line) (st s)) (c .before .before .before .before .before .before .before .before .before .before .if1 .taken))) (c .before .before .before .before .before .before .event-turn .ensures)
+
+head-turn-requires : tie.Need-head-turn-requires
+head-turn-requires c κs =
+    let s = c .before .before .before .before .before in
+    let front = s .pre .front (c .if1 .left) .0 in
+    (front, s .pre .placed .agrees ∙ ap (λ (k : ℕ). feeds k (s .args .src .now) + 1) front)
+
+returns-2 : tie.Need-returns-2
+returns-2 c =
+    let s = c .before .before .before .before .before .before in
+    let off = c .before .if1 .left in
+    taken-as (s .args .src .now) (s .args .at) _ _ _ _ _ _ (sym (ap (λ (opened : Bool). readHere (s .args .src .now) opened (s .args .at) (s .args .line) (st s)) off)) (c .head-turn .ensures (s .args .clocks .now) (s .args .held .now) (s .args .order .now) (s .pre .front off .1))
+
+pub take-turn-spec : {M : Type 1} → statement M
+take-turn-spec =
+    tie.close
+    (tie.spec
+    event-turn-requires
+    same-length
+    same-length-2
+    same-length-3
+    returns
+    head-turn-requires
+    returns-2)
