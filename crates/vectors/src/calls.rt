@@ -7,11 +7,13 @@ use crate::cells::low_word;
 use crate::cells::packed;
 use crate::cells::unpacked;
 use crate::cells::wide;
+use crate::cells::wide_word;
 use crate::moving::list_by_moving;
 use crate::second::AT_LEAST;
 use crate::second::Asking;
 use crate::second::EXACTLY;
 use cuts::Answer;
+use cuts::Gathered;
 use cuts::Listed;
 use cuts::Listing;
 use model::Cut;
@@ -78,12 +80,13 @@ fn answer_word(answer: Answer) -> u64 {
     }
 }
 
-// What a call said: its word, how many it wrote or counted, and a place or a cut.
+// What a call said: its word, how many it wrote or counted, a place or a cut, and the position where a gathering stopped.
 pub(crate) struct Said {
     pub word: u64,
     pub number: u64,
     pub begun: bool,
     pub cut: u64,
+    pub position: u64,
 }
 
 fn plain(word: u64, number: u64, cut: u64) -> Said {
@@ -92,6 +95,7 @@ fn plain(word: u64, number: u64, cut: u64) -> Said {
         number,
         begun: false,
         cut,
+        position: 0,
     }
 }
 
@@ -141,11 +145,12 @@ fn call_count(record: Record, clocks: &[u8], held: &[u16], order: &[u8], request
     plain(verdict_word(verdict), counted.count, 0)
 }
 
-// What is asked of a store: which call, the interval or piece (`WHOLE` for the whole trace), the place, the bytes that are
-// lent, the question.
+// What is asked of a store: which call, the interval or piece (`WHOLE` for the whole trace), the last interval of a gathering, the
+// place, the bytes that are lent, the question.
 pub(crate) struct Request {
     pub call: u64,
     pub p: u64,
+    pub last: u64,
     pub begun: bool,
     pub cut: u64,
     pub length: u64,
@@ -185,6 +190,22 @@ fn listed_said(listed: Listed) -> Said {
         number: listed.written as u64,
         begun: place.begun,
         cut: packed(&counts),
+        position: 0,
+    }
+}
+
+fn gathered_said(gathered: Gathered) -> Said {
+    let answer = gathered.answer;
+    let position = gathered.position;
+    let place = gathered.place;
+    let cut = place.cut;
+    let counts = cut.counts;
+    Said {
+        word: listing_word(answer),
+        number: gathered.written as u64,
+        begun: place.begun,
+        cut: packed(&counts),
+        position: wide_word(position.0),
     }
 }
 
@@ -253,18 +274,10 @@ fn call_gather(
     if out.len() < length {
         return nothing();
     }
-    let position = Position(low_word(request.p));
-    let gathered = cuts::gather(
-        record,
-        clocks,
-        held,
-        order,
-        position,
-        position,
-        &mut out[..length],
-    );
-    let answer = gathered.answer;
-    plain(listing_word(answer), gathered.written as u64, 0)
+    let first = Position(low_word(request.p));
+    let last = Position(low_word(request.last));
+    let gathered = cuts::gather(record, clocks, held, order, first, last, &mut out[..length]);
+    gathered_said(gathered)
 }
 
 fn question_of(asking: Asking) -> Question {

@@ -1,5 +1,5 @@
-// The library's listing, counting, gathering and asking beside the second lister, cut by cut; and its listing through a lent
-// place beside that by value.
+// The library's listing, counting and asking beside the second lister, cut by cut; and its listing through a lent place beside
+// that by value.
 use crate::book::OWN;
 use crate::book::OWN_COUNT;
 use crate::book::WRITTEN;
@@ -10,7 +10,6 @@ use crate::calls::ASK;
 use crate::calls::COUNT;
 use crate::calls::DONE;
 use crate::calls::FOUND;
-use crate::calls::GATHER;
 use crate::calls::LIST;
 use crate::calls::MORE;
 use crate::calls::MOVE;
@@ -26,7 +25,6 @@ use crate::lend::ask_store;
 use crate::notes::ANSWERS;
 use crate::notes::COUNTS;
 use crate::notes::CUTS;
-use crate::notes::GATHERED;
 use crate::notes::LISTINGS;
 use crate::notes::MOVING;
 use crate::notes::REST;
@@ -104,7 +102,7 @@ pub(crate) fn nowhere() -> Stand {
     }
 }
 
-fn fewer(a: u64, b: u64) -> u64 {
+pub(crate) fn fewer(a: u64, b: u64) -> u64 {
     if a < b { a } else { b }
 }
 
@@ -116,6 +114,7 @@ fn request_at(call: u64, plan: Plan, stand: Stand) -> Request {
     Request {
         call,
         p: plan.p,
+        last: plan.p,
         begun: stand.begun,
         cut: stand.cut,
         length: plan.length,
@@ -123,7 +122,7 @@ fn request_at(call: u64, plan: Plan, stand: Stand) -> Request {
     }
 }
 
-fn word_at(seen: u64, total: u64) -> u64 {
+pub(crate) fn word_at(seen: u64, total: u64) -> u64 {
     if seen < total { MORE } else { DONE }
 }
 
@@ -140,12 +139,13 @@ fn written_cut(book: &Book, i: u64) -> u64 {
     cut
 }
 
-// The cuts in the output, against those of a list from `seen` on.
-fn compare_cuts(book: &mut Book, list: u64, seen: u64, count: u64) {
+// The cuts in the output from one on, against those of a list from `seen` on.
+pub(crate) fn compare_cuts(book: &mut Book, from: u64, list: u64, seen: u64, count: u64) {
     let mut i: u64 = 0;
     while i < count {
         let want = listed(book, list, wrapping_add_u64(seen, i));
-        same(book, CUTS, want, written_cut(book, i));
+        let got = written_cut(book, wrapping_add_u64(from, i));
+        same(book, CUTS, want, got);
         i += 1;
     }
 }
@@ -172,6 +172,7 @@ fn compare_moving(book: &mut Book, request: Request, want: Said) {
     let moving = Request {
         call: MOVE,
         p: request.p,
+        last: request.last,
         begun: request.begun,
         cut: request.cut,
         length: request.length,
@@ -219,7 +220,7 @@ fn judge_listing(book: &mut Book, plan: Plan, from: Stand, got: Said) -> Stand {
     same_word(book, LISTINGS, word_at(after.seen, plan.total), got.word);
     same(book, LISTINGS, count, got.number);
     same_place(book, after, got);
-    compare_cuts(book, plan.list, from.seen, count);
+    compare_cuts(book, 0, plan.list, from.seen, count);
     compare_rest(book, 8 * (count % 65536), plan.length);
     after
 }
@@ -256,15 +257,6 @@ pub(crate) fn list_refused(book: &mut Book, plan: Plan, from: Stand, number: u64
     compare_rest(book, 0, plan.length);
 }
 
-pub(crate) fn compare_gathering(book: &mut Book, plan: Plan) {
-    let got = ask_store(book, request_at(GATHER, plan, nowhere()));
-    let count = fewer(plan.length / 8, plan.total);
-    same_word(book, GATHERED, word_at(count, plan.total), got.word);
-    same(book, GATHERED, count, got.number);
-    compare_cuts(book, plan.list, 0, count);
-    compare_rest(book, 8 * (count % 65536), plan.length);
-}
-
 pub(crate) fn compare_count(book: &mut Book, plan: Plan) -> u64 {
     let got = ask_store(book, request_at(COUNT, plan, nowhere()));
     same_word(book, COUNTS, 0, got.word);
@@ -276,6 +268,7 @@ pub(crate) fn request_asking(asking: Asking, p: u64) -> Request {
     Request {
         call: ASK,
         p,
+        last: p,
         begun: false,
         cut: 0,
         length: 0,

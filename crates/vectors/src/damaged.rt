@@ -4,7 +4,6 @@ use crate::book::Row;
 use crate::book::events;
 use crate::book::tablets;
 use crate::calls::CHECK;
-use crate::calls::GATHER;
 use crate::calls::LIST;
 use crate::calls::Request;
 use crate::calls::WHOLE;
@@ -18,6 +17,7 @@ use crate::compare::ask_library;
 use crate::compare::compare_rest;
 use crate::compare::number_of;
 use crate::compare::request_asking;
+use crate::gathering::gathering;
 use crate::generate::draw;
 use crate::lend::CHANGED;
 use crate::lend::CHANGED_TO;
@@ -41,11 +41,12 @@ fn set_of(k: u64) -> Asking {
     Asking { question: SET, k }
 }
 
-// An interval or piece, a place that no interval has, an output that takes neither a cut nor a piece, a set without a tablet.
+// An interval, alone for a gathering, or a piece; a place that no interval has, an output that takes neither a cut nor a piece, a set without a tablet.
 fn faulty_request(call: u64, p: u64) -> Request {
     Request {
         call,
         p,
+        last: p,
         begun: true,
         cut: 18446744073709551615,
         length: 7,
@@ -63,6 +64,7 @@ fn refuse(book: &mut Book, request: Request, number: u64) {
     same(book, REFUSALS, 0, got.number);
     same(book, REFUSALS, number_of(begun), number_of(got.begun));
     same(book, REFUSALS, if place { request.cut } else { 0 }, got.cut);
+    same(book, REFUSALS, 0, got.position);
     compare_rest(book, 0, request.length);
 }
 
@@ -142,9 +144,14 @@ fn refuse_set(book: &mut Book, p: u64, set: u64) {
     refuse(book, request_asking(set_of(set), p), 13);
 }
 
-// An output that takes no cut, lent for gathering.
+// Gathering with a last position above T, and with one below the first, each before an output that takes no cut; and that output
+// at positions that are not refused.
 fn refuse_gathering(book: &mut Book) {
-    refuse(book, faulty_request(GATHER, events(book)), 14);
+    let last = events(book);
+    let above = wrapping_add_u64(last, 1);
+    refuse(book, gathering(0, above, 7), 9);
+    refuse(book, gathering(above, last, 7), 9);
+    refuse(book, gathering(0, last, 7), 14);
 }
 
 // Positions above T; the empty set, and one that names the tablet behind the last, of an interval and of the whole trace.

@@ -7,6 +7,7 @@ mod cells;
 mod compare;
 mod damaged;
 mod fixed;
+mod gathering;
 mod generate;
 mod lend;
 mod moving;

@@ -121,6 +121,7 @@ fn writing(p: u64, length: u64) -> Request {
     Request {
         call: WRITE,
         p,
+        last: p,
         begun: false,
         cut: 0,
         length,

@@ -21,11 +21,12 @@ use crate::compare::Plan;
 use crate::compare::Stand;
 use crate::compare::compare_answer;
 use crate::compare::compare_count;
-use crate::compare::compare_gathering;
 use crate::compare::list_once;
 use crate::compare::list_refused;
 use crate::compare::list_through;
 use crate::compare::number_of;
+use crate::gathering::compare_gathering;
+use crate::gathering::gathering;
 use crate::generate::draw;
 use crate::generate::draw_cut;
 use crate::lend::lend_sound;
@@ -125,10 +126,10 @@ fn list_from_drawn(book: &mut Book, plan: Plan) {
 }
 
 // One interval: what the library lists, gathers, answers and counts. The count is handed on to be summed.
-fn compare_interval(book: &mut Book, plan: Plan) -> u64 {
+fn compare_interval(book: &mut Book, plan: Plan, all: u64) -> u64 {
     list_through(book, plan);
     list_from_drawn(book, plan);
-    compare_gathering(book, plan);
+    compare_gathering(book, gathering(plan.p, plan.p, plan.length), all);
     ask_some(book, plan, 2);
     compare_count(book, plan)
 }
@@ -149,11 +150,24 @@ fn compare_intervals(book: &mut Book, total: u64) {
     let mut p: u64 = 0;
     while p < behind {
         let plan = plan_of(book, p, total);
-        let count = compare_interval(book, plan);
+        let count = compare_interval(book, plan, total);
         sum = wrapping_add_u64(sum, count);
         p += 1;
     }
     same(book, SUMS, total, sum);
+}
+
+// The cuts of several intervals, one behind the other.
+fn gather_drawn(book: &mut Book, total: u64) {
+    let behind = wrapping_add_u64(events(book), 1);
+    let first = draw(book, behind);
+    let more = draw(book, wrapping_sub_u64(behind, first));
+    let length = draw_length(book);
+    compare_gathering(
+        book,
+        gathering(first, wrapping_add_u64(first, more), length),
+        total,
+    );
 }
 
 fn whole(total: u64) -> Plan {
@@ -173,6 +187,7 @@ pub(crate) fn compare_trace(book: &mut Book) -> u64 {
     put(book, OWN_COUNT, 0);
     let total = list_all(book);
     compare_intervals(book, total);
+    gather_drawn(book, total);
     ask_some(book, whole(total), 8);
     total
 }
