@@ -26,17 +26,27 @@ const COPIED_ROWS: u64 = 10320;
 
 const COPIED_EVENTS: u64 = 18512;
 
-// The lists of cuts, each with room for 8,192: all of the day's, those of one interval, all of the day that was copied.
+// The lists of cuts, each with room for 8,192: all of the day's and those of one interval, by the second lister; all that the
+// library listed of the day that was copied, and of the day.
 pub(crate) const ALL: u64 = 20480;
 
 pub(crate) const SOME: u64 = 28672;
 
 pub(crate) const COPIED: u64 = 36864;
 
-// What a call wrote into its output, a byte to a cell; and the text that is read, likewise.
+pub(crate) const OWN: u64 = 184320;
+// How many the library listed, of either day.
+pub(crate) const OWN_COUNT: u64 = 18526;
+
+pub(crate) const COPIED_COUNT: u64 = 18527;
+
+// What a call wrote into its output, a byte to a cell; the text that is read, likewise; and what a listing through a lent place
+// wrote.
 pub(crate) const WRITTEN: u64 = 45056;
 
 pub(crate) const TEXT: u64 = 53248;
+
+pub(crate) const WRITTEN_MOVING: u64 = 192512;
 
 pub(crate) fn tablets(book: &Book) -> u64 {
     cell(book, TABLETS)
@@ -151,11 +161,13 @@ pub(crate) fn vectors(book: &Book) -> u64 {
     product
 }
 
-// Copies the day's rows and cuts away, for another order of the same events.
+// Copies the day's rows away, and the cuts that the library listed of it, for another order of the same events.
 pub(crate) fn copy_day(book: &mut Book) {
     put(book, COPIED_EVENTS, events(book));
     copy_cells(book, ROWS, COPIED_ROWS);
-    copy_cells(book, ALL, COPIED);
+    let count = cell(book, OWN_COUNT);
+    put(book, COPIED_COUNT, count);
+    copy_cells(book, OWN, COPIED);
 }
 
 // The copied day again, its first `last` events.

@@ -2,18 +2,18 @@
 // word that a call says is document 01's refusal number, 0 for none, or a number from 200 on.
 use crate::book::Row;
 use crate::book::event_of;
-use crate::cells::Clocks;
-use crate::cells::Held;
-use crate::cells::Order;
 use crate::cells::low_byte;
 use crate::cells::low_word;
 use crate::cells::packed;
 use crate::cells::unpacked;
 use crate::cells::wide;
+use crate::cells::wide_word;
+use crate::moving::list_by_moving;
 use crate::second::AT_LEAST;
 use crate::second::Asking;
 use crate::second::EXACTLY;
 use cuts::Answer;
+use cuts::Gathered;
 use cuts::Listed;
 use cuts::Listing;
 use model::Cut;
@@ -80,12 +80,13 @@ fn answer_word(answer: Answer) -> u64 {
     }
 }
 
-// What a call said: its word, how many it wrote or counted, and a place or a cut.
+// What a call said: its word, how many it wrote or counted, a place or a cut, and the position where a gathering stopped.
 pub(crate) struct Said {
     pub word: u64,
     pub number: u64,
     pub begun: bool,
     pub cut: u64,
+    pub position: u64,
 }
 
 fn plain(word: u64, number: u64, cut: u64) -> Said {
@@ -94,6 +95,7 @@ fn plain(word: u64, number: u64, cut: u64) -> Said {
         number,
         begun: false,
         cut,
+        position: 0,
     }
 }
 
@@ -113,11 +115,18 @@ pub(crate) struct Offered {
     pub record: Record,
 }
 
+pub(crate) fn unoffered(record: Record) -> Offered {
+    Offered {
+        word: NOTHING,
+        record,
+    }
+}
+
 pub(crate) fn call_accept(
     record: Record,
-    clocks: &mut Clocks,
-    held: &mut Held,
-    order: &mut Order,
+    clocks: &mut [u8],
+    held: &mut [u16],
+    order: &mut [u8],
     event: Row,
 ) -> Offered {
     let taken = store::accept(record, clocks, held, order, event_of(event));
@@ -136,11 +145,12 @@ fn call_count(record: Record, clocks: &[u8], held: &[u16], order: &[u8], request
     plain(verdict_word(verdict), counted.count, 0)
 }
 
-// What is asked of a store: which call, the interval or piece (`WHOLE` for the whole trace), the place, the bytes that are
-// lent, the question.
+// What is asked of a store: which call, the interval or piece (`WHOLE` for the whole trace), the last interval of a gathering, the
+// place, the bytes that are lent, the question.
 pub(crate) struct Request {
     pub call: u64,
     pub p: u64,
+    pub last: u64,
     pub begun: bool,
     pub cut: u64,
     pub length: u64,
@@ -160,6 +170,8 @@ pub(crate) const WRITE: u64 = 5;
 
 pub(crate) const CHECK: u64 = 6;
 
+pub(crate) const MOVE: u64 = 7;
+
 fn place_of(begun: bool, cut: u64) -> Place {
     let counts = unpacked(cut);
     Place {
@@ -178,6 +190,22 @@ fn listed_said(listed: Listed) -> Said {
         number: listed.written as u64,
         begun: place.begun,
         cut: packed(&counts),
+        position: 0,
+    }
+}
+
+fn gathered_said(gathered: Gathered) -> Said {
+    let answer = gathered.answer;
+    let position = gathered.position;
+    let place = gathered.place;
+    let cut = place.cut;
+    let counts = cut.counts;
+    Said {
+        word: listing_word(answer),
+        number: gathered.written as u64,
+        begun: place.begun,
+        cut: packed(&counts),
+        position: wide_word(position.0),
     }
 }
 
@@ -207,6 +235,33 @@ fn call_list(
     listed_said(listed)
 }
 
+// The same through a lent place.
+fn call_moving(
+    record: Record,
+    clocks: &[u8],
+    held: &[u16],
+    order: &[u8],
+    request: Request,
+    out: &mut [u8],
+) -> Said {
+    let length = request.length as usize;
+    if out.len() < length {
+        return nothing();
+    }
+    let place = place_of(request.begun, request.cut);
+    let position = Position(low_word(request.p));
+    let listed = list_by_moving(
+        record,
+        clocks,
+        held,
+        order,
+        position,
+        place,
+        &mut out[..length],
+    );
+    listed_said(listed)
+}
+
 fn call_gather(
     record: Record,
     clocks: &[u8],
@@ -219,18 +274,10 @@ fn call_gather(
     if out.len() < length {
         return nothing();
     }
-    let position = Position(low_word(request.p));
-    let gathered = cuts::gather(
-        record,
-        clocks,
-        held,
-        order,
-        position,
-        position,
-        &mut out[..length],
-    );
-    let answer = gathered.answer;
-    plain(listing_word(answer), gathered.written as u64, 0)
+    let first = Position(low_word(request.p));
+    let last = Position(low_word(request.last));
+    let gathered = cuts::gather(record, clocks, held, order, first, last, &mut out[..length]);
+    gathered_said(gathered)
 }
 
 fn question_of(asking: Asking) -> Question {
@@ -300,6 +347,7 @@ pub(crate) fn call(
         COUNT => call_count(record, clocks, held, order, request),
         ASK => call_ask(record, clocks, held, order, request),
         WRITE => call_write(record, clocks, held, order, request, out),
+        MOVE => call_moving(record, clocks, held, order, request, out),
         _ => call_check(record, clocks, held, order),
     }
 }

@@ -1,26 +1,32 @@
-// The library's listing, counting, gathering and asking beside the second lister, cut by cut.
+// The library's listing, counting and asking beside the second lister, cut by cut; and its listing through a lent place beside
+// that by value.
+use crate::book::OWN;
+use crate::book::OWN_COUNT;
 use crate::book::WRITTEN;
+use crate::book::WRITTEN_MOVING;
 use crate::book::listed;
+use crate::book::put_listed;
 use crate::calls::ASK;
 use crate::calls::COUNT;
 use crate::calls::DONE;
 use crate::calls::FOUND;
-use crate::calls::GATHER;
 use crate::calls::LIST;
 use crate::calls::MORE;
+use crate::calls::MOVE;
 use crate::calls::NONE;
 use crate::calls::Request;
 use crate::calls::Said;
 use crate::cells::Book;
 use crate::cells::cell;
+use crate::cells::put;
 use crate::cells::wide;
 use crate::lend::STAYS;
 use crate::lend::ask_store;
 use crate::notes::ANSWERS;
 use crate::notes::COUNTS;
 use crate::notes::CUTS;
-use crate::notes::GATHERED;
 use crate::notes::LISTINGS;
+use crate::notes::MOVING;
 use crate::notes::REST;
 use crate::notes::same;
 use crate::notes::same_word;
@@ -29,9 +35,27 @@ use crate::second::first_meeting;
 use std::num::wrapping_add_u64;
 use std::num::wrapping_sub_u64;
 
+// How many cuts the last listing said that it wrote; and the most that any output lent to a listing takes.
+const LAST: u64 = 18525;
+
+const MOST_CUTS: u64 = 64;
+
 // A byte that the last call wrote, or left.
 pub(crate) fn written(book: &Book, i: u64) -> u64 {
     cell(book, wrapping_add_u64(WRITTEN, i))
+}
+
+// How many of the output's first bytes are others than those that the listing through a lent place left in its output.
+fn unlike(book: &Book, to: u64) -> u64 {
+    let mut count: u64 = 0;
+    let mut i: u64 = 0;
+    while i < to {
+        if written(book, i) != cell(book, wrapping_add_u64(WRITTEN_MOVING, i)) {
+            count = wrapping_add_u64(count, 1);
+        }
+        i += 1;
+    }
+    count
 }
 
 // How many bytes of the output from one index up to another are not as they were before the call.
@@ -78,7 +102,7 @@ pub(crate) fn nowhere() -> Stand {
     }
 }
 
-fn fewer(a: u64, b: u64) -> u64 {
+pub(crate) fn fewer(a: u64, b: u64) -> u64 {
     if a < b { a } else { b }
 }
 
@@ -90,6 +114,7 @@ fn request_at(call: u64, plan: Plan, stand: Stand) -> Request {
     Request {
         call,
         p: plan.p,
+        last: plan.p,
         begun: stand.begun,
         cut: stand.cut,
         length: plan.length,
@@ -97,7 +122,7 @@ fn request_at(call: u64, plan: Plan, stand: Stand) -> Request {
     }
 }
 
-fn word_at(seen: u64, total: u64) -> u64 {
+pub(crate) fn word_at(seen: u64, total: u64) -> u64 {
     if seen < total { MORE } else { DONE }
 }
 
@@ -114,12 +139,13 @@ fn written_cut(book: &Book, i: u64) -> u64 {
     cut
 }
 
-// The cuts in the output, against those of a list from `seen` on.
-fn compare_cuts(book: &mut Book, list: u64, seen: u64, count: u64) {
+// The cuts in the output from one on, against those of a list from `seen` on.
+pub(crate) fn compare_cuts(book: &mut Book, from: u64, list: u64, seen: u64, count: u64) {
     let mut i: u64 = 0;
     while i < count {
         let want = listed(book, list, wrapping_add_u64(seen, i));
-        same(book, CUTS, want, written_cut(book, i));
+        let got = written_cut(book, wrapping_add_u64(from, i));
+        same(book, CUTS, want, got);
         i += 1;
     }
 }
@@ -137,8 +163,49 @@ fn moved(book: &Book, plan: Plan, from: Stand, count: u64) -> Stand {
     }
 }
 
-fn number_of(b: bool) -> u64 {
+pub(crate) fn number_of(b: bool) -> u64 {
     if b { 1 } else { 0 }
+}
+
+// The request through a lent place: what is said, where the place then stands and each byte of the output are as `list` has them.
+fn compare_moving(book: &mut Book, request: Request, want: Said) {
+    let moving = Request {
+        call: MOVE,
+        p: request.p,
+        last: request.last,
+        begun: request.begun,
+        cut: request.cut,
+        length: request.length,
+        asking: no_question(),
+    };
+    let got = ask_store(book, moving);
+    same(book, MOVING, want.word, got.word);
+    same(book, MOVING, want.number, got.number);
+    same(book, MOVING, number_of(want.begun), number_of(got.begun));
+    same(book, MOVING, want.cut, got.cut);
+    let bytes = unlike(book, wrapping_add_u64(request.length, 8));
+    same(book, MOVING, 0, bytes);
+}
+
+// A call on the store that is lent. A listing is made both ways.
+pub(crate) fn ask_library(book: &mut Book, request: Request) -> Said {
+    let said = ask_store(book, request);
+    if request.call == LIST {
+        compare_moving(book, request, said);
+    }
+    said
+}
+
+// The cuts that the library's last call wrote, behind those of the day that it listed before.
+fn keep_cuts(book: &mut Book, count: u64) {
+    let from = cell(book, OWN_COUNT);
+    let mut i: u64 = 0;
+    while i < count {
+        let cut = written_cut(book, i);
+        put_listed(book, OWN, wrapping_add_u64(from, i), cut);
+        i += 1;
+    }
+    put(book, OWN_COUNT, wrapping_add_u64(from, count));
 }
 
 fn same_place(book: &mut Book, want: Stand, got: Said) {
@@ -153,25 +220,27 @@ fn judge_listing(book: &mut Book, plan: Plan, from: Stand, got: Said) -> Stand {
     same_word(book, LISTINGS, word_at(after.seen, plan.total), got.word);
     same(book, LISTINGS, count, got.number);
     same_place(book, after, got);
-    compare_cuts(book, plan.list, from.seen, count);
+    compare_cuts(book, 0, plan.list, from.seen, count);
     compare_rest(book, 8 * (count % 65536), plan.length);
     after
 }
 
 // One listing call: how many cuts it writes and which, what it says, which bytes stay, and where the place stands behind it.
 pub(crate) fn list_once(book: &mut Book, plan: Plan, from: Stand) -> Stand {
-    let got = ask_store(book, request_at(LIST, plan, from));
+    let got = ask_library(book, request_at(LIST, plan, from));
+    put(book, LAST, got.number);
     judge_listing(book, plan, from, got)
 }
 
 // Call after call from a place that is not begun, each from the place that the last one left, until the interval is done; and
-// one call more, when nothing remains.
+// one call more, when nothing remains. The cuts that the library wrote are kept.
 pub(crate) fn list_through(book: &mut Book, plan: Plan) {
     let mut stand = nowhere();
     let mut calls: u64 = 0;
     while calls < 65536 {
         let over = plan.total <= stand.seen;
         stand = list_once(book, plan, stand);
+        keep_cuts(book, fewer(cell(book, LAST), MOST_CUTS));
         if over {
             return;
         }
@@ -181,20 +250,11 @@ pub(crate) fn list_through(book: &mut Book, plan: Plan) {
 
 // A listing call that is refused: nothing is written, no byte and no place changes.
 pub(crate) fn list_refused(book: &mut Book, plan: Plan, from: Stand, number: u64) {
-    let got = ask_store(book, request_at(LIST, plan, from));
+    let got = ask_library(book, request_at(LIST, plan, from));
     same_word(book, LISTINGS, number, got.word);
     same(book, LISTINGS, 0, got.number);
     same_place(book, from, got);
     compare_rest(book, 0, plan.length);
-}
-
-pub(crate) fn compare_gathering(book: &mut Book, plan: Plan) {
-    let got = ask_store(book, request_at(GATHER, plan, nowhere()));
-    let count = fewer(plan.length / 8, plan.total);
-    same_word(book, GATHERED, word_at(count, plan.total), got.word);
-    same(book, GATHERED, count, got.number);
-    compare_cuts(book, plan.list, 0, count);
-    compare_rest(book, 8 * (count % 65536), plan.length);
 }
 
 pub(crate) fn compare_count(book: &mut Book, plan: Plan) -> u64 {
@@ -208,6 +268,7 @@ pub(crate) fn request_asking(asking: Asking, p: u64) -> Request {
     Request {
         call: ASK,
         p,
+        last: p,
         begun: false,
         cut: 0,
         length: 0,

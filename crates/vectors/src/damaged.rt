@@ -4,6 +4,7 @@ use crate::book::Row;
 use crate::book::events;
 use crate::book::tablets;
 use crate::calls::CHECK;
+use crate::calls::LIST;
 use crate::calls::Request;
 use crate::calls::WHOLE;
 use crate::calls::WRITE;
@@ -12,8 +13,11 @@ use crate::cells::cell;
 use crate::cells::put;
 use crate::cells::wide;
 use crate::cells::wide_word;
+use crate::compare::ask_library;
 use crate::compare::compare_rest;
+use crate::compare::number_of;
 use crate::compare::request_asking;
+use crate::gathering::gathering;
 use crate::generate::draw;
 use crate::lend::CHANGED;
 use crate::lend::CHANGED_TO;
@@ -21,7 +25,6 @@ use crate::lend::LENT_EVENTS;
 use crate::lend::LENT_TABLETS;
 use crate::lend::SHORT;
 use crate::lend::accept_in_store;
-use crate::lend::ask_store;
 use crate::lend::lend_sound;
 use crate::lend::replayed;
 use crate::lend::slot_at;
@@ -38,11 +41,12 @@ fn set_of(k: u64) -> Asking {
     Asking { question: SET, k }
 }
 
-// An interval or piece, a place that no interval has, an output that takes neither a cut nor a piece, a set without a tablet.
+// An interval, alone for a gathering, or a piece; a place that no interval has, an output that takes neither a cut nor a piece, a set without a tablet.
 fn faulty_request(call: u64, p: u64) -> Request {
     Request {
         call,
         p,
+        last: p,
         begun: true,
         cut: 18446744073709551615,
         length: 7,
@@ -50,17 +54,17 @@ fn faulty_request(call: u64, p: u64) -> Request {
     }
 }
 
-// A call that is refused by a number: it counts and writes nothing. A listing gives its place back, any other call zeros.
+// A call that is refused by a number: it counts and writes nothing. A listing gives the place back that it was given, any other
+// call zeros.
 fn refuse(book: &mut Book, request: Request, number: u64) {
-    let got = ask_store(book, request);
+    let got = ask_library(book, request);
+    let place = request.call == LIST;
+    let begun = place && request.begun;
     same_word(book, REFUSALS, number, got.word);
     same(book, REFUSALS, 0, got.number);
-    same(
-        book,
-        REFUSALS,
-        if got.begun { request.cut } else { 0 },
-        got.cut,
-    );
+    same(book, REFUSALS, number_of(begun), number_of(got.begun));
+    same(book, REFUSALS, if place { request.cut } else { 0 }, got.cut);
+    same(book, REFUSALS, 0, got.position);
     compare_rest(book, 0, request.length);
 }
 
@@ -74,10 +78,8 @@ fn refuse_at(book: &mut Book, p: u64, number: u64) {
     refuse(book, faulty_request(WRITE, wrapping_add_u64(p, 1)), number);
 }
 
-// All calls on a store that is refused whatever is asked, and accepting, which leaves the record as given.
-fn refuse_store(book: &mut Book, number: u64) {
-    refuse_at(book, 9999, number);
-    refuse(book, faulty_request(CHECK, 0), number);
+// Accepting an event of tablet 0: refused, with the record as given.
+fn refuse_event(book: &mut Book, number: u64) {
     let event = Row {
         tablet: 0,
         clock: 0,
@@ -100,6 +102,13 @@ fn refuse_store(book: &mut Book, number: u64) {
     );
 }
 
+// All calls on a store that is refused whatever is asked.
+fn refuse_store(book: &mut Book, number: u64) {
+    refuse_at(book, 9999, number);
+    refuse(book, faulty_request(CHECK, 0), number);
+    refuse_event(book, number);
+}
+
 // One thing wrong with the store that is lent; then it is sound again.
 fn refuse_with(book: &mut Book, what: u64, v: u64, number: u64) {
     put(book, what, v);
@@ -107,14 +116,16 @@ fn refuse_with(book: &mut Book, what: u64, v: u64, number: u64) {
     lend_sound(book);
 }
 
-// Each buffer one short of document 01's size; at just that size it is the position that is refused.
+// Each buffer one short of document 01's size. At just that size the store passes, and it is the position and the event that
+// are refused.
 fn refuse_short(book: &mut Book) {
-    let mut short: u64 = 1;
-    while short < 5 {
-        put(book, SHORT, short);
-        refuse_at(book, 9999, if short < 4 { 2 } else { 9 });
-        short += 1;
-    }
+    refuse_with(book, SHORT, 1, 2);
+    refuse_with(book, SHORT, 2, 2);
+    refuse_with(book, SHORT, 3, 2);
+    put(book, SHORT, 4);
+    refuse_at(book, 9999, 9);
+    refuse(book, faulty_request(CHECK, 0), 0);
+    refuse_event(book, 4);
     lend_sound(book);
 }
 
@@ -133,10 +144,21 @@ fn refuse_set(book: &mut Book, p: u64, set: u64) {
     refuse(book, request_asking(set_of(set), p), 13);
 }
 
+// Gathering with a last position above T, and with one below the first, each before an output that takes no cut; and that output
+// at positions that are not refused.
+fn refuse_gathering(book: &mut Book) {
+    let last = events(book);
+    let above = wrapping_add_u64(last, 1);
+    refuse(book, gathering(0, above, 7), 9);
+    refuse(book, gathering(above, last, 7), 9);
+    refuse(book, gathering(0, last, 7), 14);
+}
+
 // Positions above T; the empty set, and one that names the tablet behind the last, of an interval and of the whole trace.
 pub(crate) fn refuse_questions(book: &mut Book) {
     lend_sound(book);
     refuse_at(book, wrapping_add_u64(events(book), 1), 9);
+    refuse_gathering(book);
     refuse_set(book, 0, 0);
     refuse_set(book, WHOLE, 0);
     let beyond = sets(tablets(book));

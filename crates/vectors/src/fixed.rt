@@ -28,6 +28,7 @@ fn counted(book: &mut Book, p: u64) -> u64 {
     let request = Request {
         call: COUNT,
         p,
+        last: p,
         begun: false,
         cut: 0,
         length: 0,

@@ -5,6 +5,7 @@
 use crate::book::Row;
 use crate::book::TEXT;
 use crate::book::WRITTEN;
+use crate::book::WRITTEN_MOVING;
 use crate::book::add;
 use crate::book::clear;
 use crate::book::clock_at;
@@ -17,6 +18,7 @@ use crate::book::recall;
 use crate::book::tablet_at;
 use crate::book::tablets;
 use crate::book::tally;
+use crate::calls::MOVE;
 use crate::calls::Offered;
 use crate::calls::Request;
 use crate::calls::Said;
@@ -25,6 +27,7 @@ use crate::calls::call;
 use crate::calls::call_accept;
 use crate::calls::call_read;
 use crate::calls::nothing;
+use crate::calls::unoffered;
 use crate::calls::untold;
 use crate::cells::Book;
 use crate::cells::Clocks;
@@ -161,16 +164,38 @@ const EIGHT_MARKS: u64 = 12297829382473034410;
 // What an output is filled with before a call, and up to eight bytes behind what is lent, so that the bytes that stay are seen.
 pub(crate) const STAYS: u8 = 238;
 
-fn keep_written(book: &mut Book, out: &Output, length: u64) {
+fn keep_written(book: &mut Book, out: &Output, length: u64, at: u64) {
     let behind = wrapping_add_u64(length, 8);
     let mut i: u64 = 0;
     while i < behind {
-        put(book, wrapping_add_u64(WRITTEN, i), wide(byte(out, i)));
+        put(book, wrapping_add_u64(at, i), wide(byte(out, i)));
         i += 1;
     }
 }
 
-fn call_short(
+// How many cells of each buffer are lent, as `SHORT` says.
+struct Lent {
+    clocks: usize,
+    held: usize,
+    order: usize,
+}
+
+fn sizes(short: u64) -> Lent {
+    if short == 0 {
+        return Lent {
+            clocks: 16288,
+            held: 2036,
+            order: 2036,
+        };
+    }
+    Lent {
+        clocks: if short == 1 { 16255 } else { 16256 },
+        held: if short == 2 { 2031 } else { 2032 },
+        order: if short == 3 { 2031 } else { 2032 },
+    }
+}
+
+fn call_front(
     record: Record,
     clocks: &[u8],
     held: &[u16],
@@ -179,9 +204,10 @@ fn call_short(
     request: Request,
     out: &mut Output,
 ) -> Said {
-    let clock_bytes: usize = if short == 1 { 16255 } else { 16256 };
-    let held_numbers: usize = if short == 2 { 2031 } else { 2032 };
-    let order_bytes: usize = if short == 3 { 2031 } else { 2032 };
+    let lent = sizes(short);
+    let clock_bytes = lent.clocks;
+    let held_numbers = lent.held;
+    let order_bytes = lent.order;
     if clocks.len() < clock_bytes {
         return nothing();
     }
@@ -211,10 +237,16 @@ fn call_lent(
 ) -> Said {
     let record = lent_record(book);
     let short = cell(book, SHORT);
-    if short == 0 {
-        return call(record, clocks, held, order, request, out);
+    call_front(record, clocks, held, order, short, request, out)
+}
+
+// Where the book keeps what a call wrote.
+fn output_of(call: u64) -> u64 {
+    if call == MOVE {
+        WRITTEN_MOVING
+    } else {
+        WRITTEN
     }
-    call_short(record, clocks, held, order, short, request, out)
 }
 
 // A call on the store that is lent; what it wrote is left in the book.
@@ -227,7 +259,7 @@ pub(crate) fn ask_store(book: &mut Book, request: Request) -> Said {
     lay_order(book, &mut order);
     let mut out = [STAYS; 4352];
     let said = call_lent(book, &clocks, &held, &order, request, &mut out);
-    keep_written(book, &out, request.length);
+    keep_written(book, &out, request.length, output_of(request.call));
     said
 }
 
@@ -275,8 +307,61 @@ fn compare_cells(book: &mut Book, clocks: &Clocks, held: &Held, order: &Order) {
     same(book, CELLS, 0, wrong);
 }
 
-// Offers an event to the store that is lent. Where it `may_follow`, the day has it too. Where no byte was changed, what the
-// store holds afterwards is what the day has: looked up now and then, since it takes the most time of all.
+fn accept_front(
+    record: Record,
+    clocks: &mut [u8],
+    held: &mut [u16],
+    order: &mut [u8],
+    short: u64,
+    event: Row,
+) -> Offered {
+    let lent = sizes(short);
+    let clock_bytes = lent.clocks;
+    let held_numbers = lent.held;
+    let order_bytes = lent.order;
+    if clocks.len() < clock_bytes {
+        return unoffered(record);
+    }
+    if held.len() < held_numbers {
+        return unoffered(record);
+    }
+    if order.len() < order_bytes {
+        return unoffered(record);
+    }
+    call_accept(
+        record,
+        &mut clocks[..clock_bytes],
+        &mut held[..held_numbers],
+        &mut order[..order_bytes],
+        event,
+    )
+}
+
+fn accept_part(
+    record: Record,
+    clocks: &mut Clocks,
+    held: &mut Held,
+    order: &mut Order,
+    short: u64,
+    event: Row,
+) -> Offered {
+    accept_front(record, clocks, held, order, short, event)
+}
+
+// Whether the buffers are compared behind an offer: always where `SHORT` cuts them, and now and then else, since it takes the
+// most time of all. Where a byte was changed they are not what the day has.
+fn looked_up(book: &mut Book) -> bool {
+    if cell(book, CHANGED) != 0 {
+        return false;
+    }
+    if cell(book, SHORT) != 0 {
+        return true;
+    }
+    draw(book, 4) == 0
+}
+
+// Offers an event to the store that is lent. Where it `may_follow`, the day has it too. What the store holds afterwards is what
+// the day has.
 pub(crate) fn accept_in_store(book: &mut Book, event: Row, may_follow: bool) -> Offered {
     let mut clocks = [MARK; 16288];
     lay_clocks(book, &mut clocks);
@@ -285,11 +370,12 @@ pub(crate) fn accept_in_store(book: &mut Book, event: Row, may_follow: bool) -> 
     let mut order = [MARK; 2036];
     lay_order(book, &mut order);
     let record = lent_record(book);
-    let offered = call_accept(record, &mut clocks, &mut held, &mut order, event);
+    let short = cell(book, SHORT);
+    let offered = accept_part(record, &mut clocks, &mut held, &mut order, short, event);
     if may_follow {
         add(book, event);
     }
-    if cell(book, CHANGED) == 0 && draw(book, 4) == 0 {
+    if looked_up(book) {
         compare_cells(book, &clocks, &held, &order);
     }
     offered
@@ -317,12 +403,31 @@ fn read_front(
     clocks: &mut [u8],
     held: &mut [u16],
     order: &mut [u8],
+    short: u64,
 ) -> Told {
+    let lent = sizes(short);
     let end = length as usize;
+    let clock_bytes = lent.clocks;
+    let held_numbers = lent.held;
+    let order_bytes = lent.order;
     if text.len() < end {
         return untold();
     }
-    call_read(&text[..end], clocks, held, order)
+    if clocks.len() < clock_bytes {
+        return untold();
+    }
+    if held.len() < held_numbers {
+        return untold();
+    }
+    if order.len() < order_bytes {
+        return untold();
+    }
+    call_read(
+        &text[..end],
+        &mut clocks[..clock_bytes],
+        &mut held[..held_numbers],
+        &mut order[..order_bytes],
+    )
 }
 
 fn read_part(
@@ -331,8 +436,9 @@ fn read_part(
     clocks: &mut Clocks,
     held: &mut Held,
     order: &mut Order,
+    short: u64,
 ) -> Told {
-    read_front(text, length, clocks, held, order)
+    read_front(text, length, clocks, held, order, short)
 }
 
 // Reads the first bytes of the book's text; what is stored is left aside.
@@ -342,10 +448,10 @@ pub(crate) fn read_text(book: &Book, length: u64) -> Told {
     let mut clocks = [MARK; 16288];
     let mut held = [MARK_WORD; 2036];
     let mut order = [MARK; 2036];
-    read_part(&text, length, &mut clocks, &mut held, &mut order)
+    read_part(&text, length, &mut clocks, &mut held, &mut order, 0)
 }
 
-// Reads the first bytes of the book's text into a store of marks. What the store holds afterwards is the first events of the day
+// Reads the first bytes of the book's text into buffers of marks. What the store holds afterwards is the first events of the day
 // that was copied, so many as are wanted, which then are the day.
 pub(crate) fn read_into_store(book: &mut Book, length: u64, last: u64) -> Told {
     let mut text = [0u8; 122880];
@@ -353,7 +459,8 @@ pub(crate) fn read_into_store(book: &mut Book, length: u64, last: u64) -> Told {
     let mut clocks = [MARK; 16288];
     let mut held = [MARK_WORD; 2036];
     let mut order = [MARK; 2036];
-    let told = read_part(&text, length, &mut clocks, &mut held, &mut order);
+    let short = cell(book, SHORT);
+    let told = read_part(&text, length, &mut clocks, &mut held, &mut order, short);
     recall(book, last);
     compare_cells(book, &clocks, &held, &order);
     told

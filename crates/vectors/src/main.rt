@@ -7,8 +7,10 @@ mod cells;
 mod compare;
 mod damaged;
 mod fixed;
+mod gathering;
 mod generate;
 mod lend;
+mod moving;
 mod notes;
 mod offers;
 mod print;
@@ -53,8 +55,8 @@ fn try_trace(book: &mut Book, turn: u64) {
     offer_drawn(book, turn / 8 % 30, turn / 8 % 5);
     try_refusals(book);
     compare_text(book);
-    let total = compare_trace(book);
-    compare_other_order(book, total);
+    compare_trace(book);
+    compare_other_order(book);
 }
 
 fn try_traces(book: &mut Book) {
@@ -73,7 +75,7 @@ fn try_edges(book: &mut Book) {
 }
 
 fn main() {
-    let mut book = [0u64; 184320];
+    let mut book = [0u64; 200704];
     put(&mut book, SEED, 20260);
     try_cases(&mut book);
     try_edges(&mut book);

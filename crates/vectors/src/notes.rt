@@ -50,6 +50,8 @@ pub(crate) const READINGS: u64 = 20;
 
 pub(crate) const FIXED: u64 = 21;
 
+pub(crate) const MOVING: u64 = 22;
+
 // How often each refusal number was expected and given: number r at 32 + r.
 pub(crate) const MET: u64 = 32;
 

@@ -12,6 +12,7 @@ use crate::notes::FIXED;
 use crate::notes::GATHERED;
 use crate::notes::LISTINGS;
 use crate::notes::MET;
+use crate::notes::MOVING;
 use crate::notes::OFFERS;
 use crate::notes::ORDERS;
 use crate::notes::PIECES;
@@ -38,6 +39,7 @@ fn say_compared(book: &Book) {
     say_line(b"cells=", cell(book, CELLS));
     say_line(b"cuts=", cell(book, CUTS));
     say_line(b"listings=", cell(book, LISTINGS));
+    say_line(b"moving=", cell(book, MOVING));
     say_line(b"rests=", cell(book, REST));
     say_line(b"gathered=", cell(book, GATHERED));
     say_line(b"counts=", cell(book, COUNTS));

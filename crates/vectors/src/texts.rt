@@ -23,6 +23,7 @@ use crate::compare::written;
 use crate::generate::damage;
 use crate::generate::draw;
 use crate::generate::draw_event;
+use crate::lend::SHORT;
 use crate::lend::ask_store;
 use crate::lend::lend_sound;
 use crate::lend::read_into_store;
@@ -120,6 +121,7 @@ fn writing(p: u64, length: u64) -> Request {
     Request {
         call: WRITE,
         p,
+        last: p,
         begun: false,
         cut: 0,
         length,
@@ -172,6 +174,31 @@ pub(crate) fn compare_reading(book: &mut Book, length: u64, want: Told) {
     same(book, READINGS, want.tablets, got.tablets);
     same(book, READINGS, want.events, got.events);
     recall(book, last);
+}
+
+// The text's first bytes read into a store with a buffer too short, as `SHORT` says: refused before the first line, so that
+// there is no record and nothing is stored.
+fn refuse_reading(book: &mut Book, length: u64, short: u64) {
+    put(book, SHORT, short);
+    let want = Told {
+        word: 2,
+        line: 0,
+        tablets: 0,
+        events: 0,
+    };
+    compare_reading(book, length, want);
+    lend_sound(book);
+}
+
+// Each buffer one short of document 01's size; at just that size all is read.
+fn read_short(book: &mut Book, length: u64) {
+    refuse_reading(book, length, 1);
+    refuse_reading(book, length, 2);
+    refuse_reading(book, length, 3);
+    put(book, SHORT, 4);
+    let want = read_whole(book);
+    compare_reading(book, length, want);
+    lend_sound(book);
 }
 
 pub(crate) fn read_whole(book: &Book) -> Told {
@@ -291,6 +318,7 @@ pub(crate) fn compare_text(book: &mut Book) {
     let length = compare_pieces(book);
     let want = read_whole(book);
     compare_reading(book, length, want);
+    read_short(book, length);
     read_cut_short(book, length);
     read_spoilt(book, length);
     read_wrong_event(book);

@@ -1,6 +1,9 @@
 // Whole traces: every interval and some questions compared, the sums of counts, and the same events in another order.
 use crate::book::ALL;
 use crate::book::COPIED;
+use crate::book::COPIED_COUNT;
+use crate::book::OWN;
+use crate::book::OWN_COUNT;
 use crate::book::SOME;
 use crate::book::clear;
 use crate::book::copied_events;
@@ -12,14 +15,18 @@ use crate::book::tablets;
 use crate::book::vectors;
 use crate::calls::WHOLE;
 use crate::cells::Book;
+use crate::cells::cell;
+use crate::cells::put;
 use crate::compare::Plan;
 use crate::compare::Stand;
 use crate::compare::compare_answer;
 use crate::compare::compare_count;
-use crate::compare::compare_gathering;
 use crate::compare::list_once;
 use crate::compare::list_refused;
 use crate::compare::list_through;
+use crate::compare::number_of;
+use crate::gathering::compare_gathering;
+use crate::gathering::gathering;
 use crate::generate::draw;
 use crate::generate::draw_cut;
 use crate::lend::lend_sound;
@@ -119,10 +126,10 @@ fn list_from_drawn(book: &mut Book, plan: Plan) {
 }
 
 // One interval: what the library lists, gathers, answers and counts. The count is handed on to be summed.
-fn compare_interval(book: &mut Book, plan: Plan) -> u64 {
+fn compare_interval(book: &mut Book, plan: Plan, all: u64) -> u64 {
     list_through(book, plan);
     list_from_drawn(book, plan);
-    compare_gathering(book, plan);
+    compare_gathering(book, gathering(plan.p, plan.p, plan.length), all);
     ask_some(book, plan, 2);
     compare_count(book, plan)
 }
@@ -143,11 +150,24 @@ fn compare_intervals(book: &mut Book, total: u64) {
     let mut p: u64 = 0;
     while p < behind {
         let plan = plan_of(book, p, total);
-        let count = compare_interval(book, plan);
+        let count = compare_interval(book, plan, total);
         sum = wrapping_add_u64(sum, count);
         p += 1;
     }
     same(book, SUMS, total, sum);
+}
+
+// The cuts of several intervals, one behind the other.
+fn gather_drawn(book: &mut Book, total: u64) {
+    let behind = wrapping_add_u64(events(book), 1);
+    let first = draw(book, behind);
+    let more = draw(book, wrapping_sub_u64(behind, first));
+    let length = draw_length(book);
+    compare_gathering(
+        book,
+        gathering(first, wrapping_add_u64(first, more), length),
+        total,
+    );
 }
 
 fn whole(total: u64) -> Plan {
@@ -164,8 +184,10 @@ pub(crate) fn compare_trace(book: &mut Book) -> u64 {
     add_note(book, TRACES, 1);
     add_note(book, VECTORS, vectors(book));
     lend_sound(book);
+    put(book, OWN_COUNT, 0);
     let total = list_all(book);
     compare_intervals(book, total);
+    gather_drawn(book, total);
     ask_some(book, whole(total), 8);
     total
 }
@@ -194,21 +216,30 @@ fn reorder(book: &mut Book) {
     }
 }
 
-// Both orders have the same cuts.
-fn compare_orders(book: &mut Book, total: u64) {
+// Whether the library listed a cut of the day.
+fn listed_too(book: &Book, count: u64, cut: u64) -> bool {
+    index_of(book, OWN, count, cut) < count
+}
+
+// The library's lists of all intervals of the one order and of the other have the same number of cuts, and those of the one are
+// among those of the other. Each list has a cut once, as the second lister has it.
+fn compare_orders(book: &mut Book) {
+    let count = cell(book, COPIED_COUNT);
+    let again = cell(book, OWN_COUNT);
+    same(book, ORDERS, count, again);
     let mut i: u64 = 0;
-    while i < total {
-        same(book, ORDERS, listed(book, COPIED, i), listed(book, ALL, i));
+    while i < count {
+        let found = listed_too(book, again, listed(book, COPIED, i));
+        same(book, ORDERS, 1, number_of(found));
         i += 1;
     }
 }
 
 // The day once more, its events in another order.
-pub(crate) fn compare_other_order(book: &mut Book, total: u64) {
+pub(crate) fn compare_other_order(book: &mut Book) {
     copy_day(book);
     clear(book, tablets(book));
     reorder(book);
-    let again = compare_trace(book);
-    same(book, ORDERS, total, again);
-    compare_orders(book, total);
+    compare_trace(book);
+    compare_orders(book);
 }

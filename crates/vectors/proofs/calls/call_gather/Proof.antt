@@ -14,6 +14,9 @@ returns c = search needs
 low-word-requires : tie.Need-low-word-requires
 low-word-requires c κs = search needs
 
+low-word-requires-2 : tie.Need-low-word-requires-2
+low-word-requires-2 c κs = search needs
+
 slice-relend-prefix-gather : tie.Need-slice-relend-prefix-gather
 slice-relend-prefix-gather c = search needs
 
@@ -23,11 +26,8 @@ slice-aggregate-gather c = simp length-take (omega arith)
 gather-requires : tie.Need-gather-requires
 gather-requires c κs = search needs
 
-listing-word-requires : tie.Need-listing-word-requires
-listing-word-requires c κs = search needs
-
-plain-requires : tie.Need-plain-requires
-plain-requires c κs = search needs
+gathered-said-requires : tie.Need-gathered-said-requires
+gathered-said-requires c κs = search needs
 
 same-length : tie.Need-same-length
 same-length c = search needs
@@ -42,10 +42,10 @@ call-gather-spec =
     nothing-requires
     returns
     low-word-requires
+    low-word-requires-2
     slice-relend-prefix-gather
     slice-aggregate-gather
     gather-requires
-    listing-word-requires
-    plain-requires
+    gathered-said-requires
     same-length
     returns-2)

@@ -5,10 +5,10 @@ use Rattle.vectors.proofs.compare.compare_cuts.Statement.{statement}
 use Rattle.vectors.proofs.compare.compare_cuts.Tie as tie
 
 abbrev Inv-loop : tie.InvT-loop
-Inv-loop book₀ list seen count i₀ book i = Unit {0}
+Inv-loop book₀ from list seen count i₀ book i = Unit {0}
 
 abbrev μ-loop : tie.MeasureT-loop
-μ-loop book₀ list seen count i₀ book i = count - i
+μ-loop book₀ from list seen count i₀ book i = count - i
 
 loop-holds : tie.Need-loop-holds Inv-loop μ-loop
 loop-holds c = tt
@@ -18,6 +18,9 @@ wrapping-add-u64-requires c κs = tt
 
 listed-requires : tie.Need-listed-requires Inv-loop μ-loop
 listed-requires c κs = tt
+
+wrapping-add-u64-requires-2 : tie.Need-wrapping-add-u64-requires-2 Inv-loop μ-loop
+wrapping-add-u64-requires-2 c κs = tt
 
 written-cut-requires : tie.Need-written-cut-requires Inv-loop μ-loop
 written-cut-requires c κs = tt
@@ -46,6 +49,7 @@ compare-cuts-spec =
     loop-holds
     wrapping-add-u64-requires
     listed-requires
+    wrapping-add-u64-requires-2
     written-cut-requires
     same-requires
     add-i

@@ -19,6 +19,15 @@ loop-holds c = tt
 list-once-requires : tie.Need-list-once-requires Inv-loop μ-loop
 list-once-requires c κs = tt
 
+cell-requires : tie.Need-cell-requires Inv-loop μ-loop
+cell-requires c κs = tt
+
+fewer-requires : tie.Need-fewer-requires Inv-loop μ-loop
+fewer-requires c κs = tt
+
+keep-cuts-requires : tie.Need-keep-cuts-requires Inv-loop μ-loop
+keep-cuts-requires c κs = tt
+
 returns : tie.Need-returns Inv-loop μ-loop
 returns c = tt
 
@@ -43,6 +52,9 @@ list-through-spec =
     nowhere-requires
     loop-holds
     list-once-requires
+    cell-requires
+    fewer-requires
+    keep-cuts-requires
     returns
     add-calls
     loop-less

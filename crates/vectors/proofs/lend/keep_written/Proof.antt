@@ -5,10 +5,10 @@ use Rattle.vectors.proofs.lend.keep_written.Statement.{statement}
 use Rattle.vectors.proofs.lend.keep_written.Tie as tie
 
 abbrev Inv-loop : tie.InvT-loop
-Inv-loop book₀ out length behind i₀ book i = Unit {0}
+Inv-loop book₀ out length at behind i₀ book i = Unit {0}
 
 abbrev μ-loop : tie.MeasureT-loop
-μ-loop book₀ out length behind i₀ book i = behind - i
+μ-loop book₀ out length at behind i₀ book i = behind - i
 
 wrapping-add-u64-requires : tie.Need-wrapping-add-u64-requires Inv-loop μ-loop
 wrapping-add-u64-requires c κs = tt

@@ -5,10 +5,19 @@ use Rattle.vectors.proofs.traces.compare_orders.Statement.{statement}
 use Rattle.vectors.proofs.traces.compare_orders.Tie as tie
 
 abbrev Inv-loop : tie.InvT-loop
-Inv-loop book₀ total i₀ book i = Unit {0}
+Inv-loop book₀ count again i₀ book i = Unit {0}
 
 abbrev μ-loop : tie.MeasureT-loop
-μ-loop book₀ total i₀ book i = total - i
+μ-loop book₀ count again i₀ book i = count - i
+
+cell-requires : tie.Need-cell-requires Inv-loop μ-loop
+cell-requires c κs = tt
+
+cell-requires-2 : tie.Need-cell-requires-2 Inv-loop μ-loop
+cell-requires-2 c κs = tt
+
+same-requires : tie.Need-same-requires Inv-loop μ-loop
+same-requires c κs = tt
 
 loop-holds : tie.Need-loop-holds Inv-loop μ-loop
 loop-holds c = tt
@@ -16,11 +25,14 @@ loop-holds c = tt
 listed-requires : tie.Need-listed-requires Inv-loop μ-loop
 listed-requires c κs = tt
 
-listed-requires-2 : tie.Need-listed-requires-2 Inv-loop μ-loop
-listed-requires-2 c κs = tt
+listed-too-requires : tie.Need-listed-too-requires Inv-loop μ-loop
+listed-too-requires c κs = tt
 
-same-requires : tie.Need-same-requires Inv-loop μ-loop
-same-requires c κs = tt
+number-of-requires : tie.Need-number-of-requires Inv-loop μ-loop
+number-of-requires c κs = tt
+
+same-requires-2 : tie.Need-same-requires-2 Inv-loop μ-loop
+same-requires-2 c κs = tt
 
 add-i : tie.Need-add-i Inv-loop μ-loop
 add-i c = search needs
@@ -40,10 +52,14 @@ compare-orders-spec =
     (tie.spec
     Inv-loop
     μ-loop
+    cell-requires
+    cell-requires-2
+    same-requires
     loop-holds
     listed-requires
-    listed-requires-2
-    same-requires
+    listed-too-requires
+    number-of-requires
+    same-requires-2
     add-i
     loop-less
     loop-again

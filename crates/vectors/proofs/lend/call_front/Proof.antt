@@ -1,9 +1,12 @@
--- `vectors::lend::call_short` is safe: what is lent lies within the slice that it is a part of.
+-- `vectors::lend::call_front` is safe: what is lent lies within the slice that it is a part of.
 use borrow.Author.Needs.{needs}
 use native.Mathlib.Omega.{arith}
 use lib.ListN.{length, length-take}
-use Rattle.vectors.proofs.lend.call_short.Statement.{statement}
-use Rattle.vectors.proofs.lend.call_short.Tie as tie
+use Rattle.vectors.proofs.lend.call_front.Statement.{statement}
+use Rattle.vectors.proofs.lend.call_front.Tie as tie
+
+sizes-requires : tie.Need-sizes-requires
+sizes-requires c κs = search needs
 
 nothing-requires : tie.Need-nothing-requires
 nothing-requires c κs = search needs
@@ -38,10 +41,11 @@ call-requires c κs = search needs
 returns-4 : tie.Need-returns-4
 returns-4 c = search needs
 
-pub call-short-spec : {M : Type 1} → statement M
-call-short-spec =
+pub call-front-spec : {M : Type 1} → statement M
+call-front-spec =
     tie.close
     (tie.spec
+    sizes-requires
     nothing-requires
     returns
     nothing-requires-2
