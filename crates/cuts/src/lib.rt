@@ -111,7 +111,7 @@ pub struct Moved {
     pub written: usize,
 }
 
-// The same through a lent place, which the call moves on. Programs and the gatherer use the call above, by value.
+// The same through a lent place, which the call moves on. A caller that keeps its place in a local uses the call above, by value.
 pub fn list_moving(
     record: Record,
     clocks: &[u8],
