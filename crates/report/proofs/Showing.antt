@@ -10,7 +10,7 @@ use Rattle.pieces.specs.Pieces.{grown, emptyPiece}
 use Rattle.pieces.specs.Lines.{pairLine}
 use Rattle.pieces.proofs.Lengths.{wide-digits, pair-line-length}
 use Rattle.pieces.proofs.Growing.{contents-length}
-use Rattle.sheet.proofs.Placing.{sets-front, piece-text}
+use Rattle.answerlines.proofs.Placing.{sets-front, piece-text}
 use Rattle.report.specs.Report.{Printed, shown}
 
 -- a line of two 64-bit numbers

@@ -1,4 +1,4 @@
-// The sheet that `cutcheck` prints for an answer: its lines, one behind the other in the output. Nothing here knows a store.
+// The lines that `cutcheck` prints for an answer, one behind the other in the output. Nothing here knows a store.
 use loglines::keys::EVENTS;
 use loglines::keys::TABLETS;
 use model::Record;
@@ -15,8 +15,8 @@ ghost use Prim.Native.Nat.{ℕ, _+_, _*_, _≤_};
 ghost use lib.ListN.{length};
 ghost use Rattle.model.specs.Lists.{at};
 ghost use Rattle.pieces.specs.Pieces.{grown, emptyPiece};
-ghost use Rattle.sheet.specs.Printing.{intervalLines, witnessLine, headLines, tailLines, answerLines};
-ghost use Rattle.sheet.specs.Sheets.{room, Holds, Writable, LinesAt};
+ghost use Rattle.answerlines.specs.Printing.{intervalLines, witnessLine, headLines, tailLines, answerLines};
+ghost use Rattle.answerlines.specs.Outputs.{room, Holds, Writable, LinesAt};
 
 const INTERVAL: [u8; 9] = *b"interval=";
 
