@@ -33,6 +33,9 @@ count-unique s p c d m n = counted-unique c d (m ∙ sym n)
 pub count-interval-unique : (s : Store) (p : ℕ) (c d : Counted) → counted c ≡ countIn s p → counted d ≡ countIn s p → c ≡ d
 count-interval-unique s p c d m n = counted-unique c d (m ∙ sym n)
 
+pub count-interval-with-unique : (s : Store) (p : ℕ) (c d : Counted) → counted c ≡ countIn s p → counted d ≡ countIn s p → c ≡ d
+count-interval-with-unique = count-interval-unique
+
 -- asking: an answer is told by its number and whether a cut was found
 answer-unique : (a b : Answer) → answerNumber a ≡ answerNumber b → answerFound a ≡ answerFound b → a ≡ b
 answer-unique Found Found n f = refl

@@ -1,6 +1,6 @@
 -- What the public calls answer: for each call one definition of its whole outcome.
 use mathlib.Core.Path.{_≡_}
-use Prim.Native.Nat.{ℕ}
+use Prim.Native.Nat.{ℕ, _≤_}
 use mathlib.Core.Bool.{Bool, true, false, cond, not}
 use mathlib.Core.List.{List}
 use lib.Dec.{leb, ltb, eqb}
@@ -14,6 +14,7 @@ use Rattle.model.specs.Lists.{zeros}
 use Rattle.model.specs.Refusals.{numberOf, verdictNumber}
 use Rattle.model.specs.Store.{Store, storeOf, storeRefusal}
 use Rattle.model.specs.Clocks.{clockAt}
+use Rattle.model.specs.Follow.{tallies}
 use Rattle.model.specs.Cuts.{cutsBetween, interval, cutsIn}
 use Rattle.model.specs.Questions.{answer}
 use Rattle.steps.specs.Walk.{Span}
@@ -29,6 +30,11 @@ use Rattle.cuts.specs.declared.Asked.{Asked}
 pub record SoundTrace (r : Record) (clocks order : List ℕ) : Type 0 where
   pub held : List ℕ
   pub none : storeRefusal (storeOf r clocks held order) ≡ 0
+
+-- a position of the trace, 0 to T, and the tallies after it
+pub record TalliedAt (r : Record) (order : List ℕ) (p : ℕ) (counts : List ℕ) : Type 0 where
+  pub inside : p ≤ r .events
+  pub counts-are : counts ≡ tallies order p
 
 -- Counting: the refusal's number, 0 for none, and the count
 pub record CountOutcome : Type 0 where

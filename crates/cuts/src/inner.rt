@@ -3,7 +3,6 @@
 use crate::Answer;
 use crate::Asked;
 use crate::Counted;
-use crate::ranges::interval_range;
 use crate::ranges::range_span;
 use model::Cut;
 use model::Job;
@@ -12,6 +11,8 @@ use model::Record;
 use model::Refusal;
 use model::Verdict;
 use questions::question_fits;
+use steps::spans::interval_span;
+use steps::spans::tallies_after;
 use walks::counting::count_span;
 use walks::finding::first_meeting;
 ghost use mathlib.Core.Path.{_≡_};
@@ -19,20 +20,35 @@ ghost use mathlib.Core.List.{List};
 ghost use Prim.Native.Nat.{ℕ};
 ghost use Rattle.model.specs.Refusals.{numberOf};
 ghost use Rattle.model.specs.Store.{storeOf, storeRefusal};
-ghost use Rattle.cuts.specs.Outcomes.{SoundTrace, counted, countIn, asked, askIn, refusedAsking};
+ghost use Rattle.cuts.specs.Outcomes.{SoundTrace, TalliedAt, counted, countIn, asked, askIn, refusedAsking};
 
 pub fn count_interval(record: Record, clocks: &[u8], order: &[u8], position: Position) -> Counted
     requires { ⌜ SoundTrace «record» (now clocks) (now order) ⌝ }
     ensures { λ r. ⌜ ((held : List ℕ) → counted r ≡ countIn (storeOf «record» (now (clocks .entry)) held (now (order .entry))) (position .0)) ⌝ }
 {
-    let ranged = interval_range(record, clocks, order, position);
-    if !ranged.known {
+    let last = record.events;
+    if last < position.0 {
         return Counted {
             verdict: Verdict::Refused(Refusal::NoSuchPosition),
             count: 0,
         };
     }
-    let span = ranged.span;
+    let counts = tallies_after(order, position);
+    count_interval_with(record, clocks, order, position, counts)
+}
+
+// The same where the tallies after the position are at hand, as in counting interval after interval.
+pub fn count_interval_with(
+    record: Record,
+    clocks: &[u8],
+    order: &[u8],
+    position: Position,
+    counts: [u8; 8],
+) -> Counted
+    requires { ⌜ SoundTrace «record» (now clocks) (now order) × TalliedAt «record» (now order) (position .0) counts ⌝ }
+    ensures { λ r. ⌜ ((held : List ℕ) → counted r ≡ countIn (storeOf «record» (now (clocks .entry)) held (now (order .entry))) (position .0)) ⌝ }
+{
+    let span = interval_span(clocks, order, position, counts);
     let tally = count_span(record.tablets as usize, clocks, span);
     if tally.fits {
         return Counted {

@@ -7,7 +7,7 @@ use native.Mathlib.Numerals.{add-one}
 use lib.ListN.{length, getD, take, set, drop, replicate, length-append, length-replicate}
 use lib.Seq.{sets, take-suc, length-take-le, sets-eq, take-at}
 use Rattle.pieces.specs.declared.Piece.{Piece}
-use Rattle.pieces.specs.Pieces.{grown, emptyPiece, contents}
+use Rattle.pieces.specs.Pieces.{pieceRoom, grown, emptyPiece, contents}
 
 pub sets-append : (l : List ℕ) (a : ℕ) (xs ys : List ℕ) → sets (sets l a xs) (a + length xs) ys ≡ sets l a (xs ++ ys)
 sets-append l a [] ys = let e : a + 0 ≡ a = omega arith in ap (λ (i : ℕ). sets l i ys) e
@@ -46,11 +46,11 @@ sets-more l vs i h =
     ∙ ap (sets l 0) (sym (ap (λ (j : ℕ). take j vs) (add-one i) ∙ take-suc vs i 0 h))
 
 -- a piece that grew from none has the bytes that were put
-pub put-contents : (text : List ℕ) → length text ≤ 64 → contents (grown emptyPiece text) ≡ text
+pub put-contents : (text : List ℕ) → length text ≤ pieceRoom → contents (grown emptyPiece text) ≡ text
 unfolding grown emptyPiece
 put-contents text h =
-    ap (take (0 + length text)) (sets-eq text (replicate 64 0) 0 (omega (arith, length-replicate {A = ℕ} 64 0)))
-    ∙ take-at text (drop (0 + length text) (replicate 64 0)) (0 + length text) (omega arith)
+    ap (take (0 + length text)) (sets-eq text (replicate pieceRoom 0) 0 (omega (arith, length-replicate {A = ℕ} pieceRoom 0)))
+    ∙ take-at text (drop (0 + length text) (replicate pieceRoom 0)) (0 + length text) (omega arith)
 
 pub contents-length : (p : Piece) (text : List ℕ) → p ≡ grown emptyPiece text → p .length ≡ length text
 unfolding grown emptyPiece

@@ -5,8 +5,13 @@ use lib.ListN.{length, take, replicate}
 use lib.Seq.{sets}
 use Rattle.pieces.specs.declared.Piece.{Piece}
 
+-- how many bytes a piece has room for, more than the longest that is written: an event's three lines, 64 bytes. The code has
+-- this number as `ROOM`; no other place has it.
+abbrev pub pieceRoom : ℕ
+pieceRoom = 96
+
 unfoldable pub emptyPiece : Piece
-emptyPiece = record { length = 0; bytes = replicate 64 0 }
+emptyPiece = record { length = 0; bytes = replicate pieceRoom 0 }
 
 -- more bytes, put behind those that the piece has
 unfoldable pub grown : Piece → List ℕ → Piece

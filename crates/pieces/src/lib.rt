@@ -7,12 +7,15 @@ ghost use lib.ListN.{length, take};
 ghost use lib.Seq.{sets};
 ghost use Rattle.lines.specs.Numbers.{decimal};
 ghost use Rattle.lines.specs.Lists.{commaList};
-ghost use Rattle.pieces.specs.Pieces.{grown, emptyPiece};
+ghost use Rattle.pieces.specs.Pieces.{pieceRoom, grown, emptyPiece};
 ghost use Rattle.pieces.specs.Lines.{keyLine, listLine, pairLine};
+
+// How many bytes a piece has room for: `pieceRoom` of the contracts.
+pub const ROOM: usize = 96;
 
 pub struct Piece {
     pub length: usize,
-    pub bytes: [u8; 64],
+    pub bytes: [u8; ROOM],
 }
 
 pub fn empty_piece() -> Piece
@@ -20,12 +23,12 @@ pub fn empty_piece() -> Piece
 {
     Piece {
         length: 0,
-        bytes: [0u8; 64],
+        bytes: [0u8; ROOM],
     }
 }
 
 pub fn put_byte(piece: Piece, byte: u8) -> Piece
-    requires { ⌜ piece .length < 64 ⌝ }
+    requires { ⌜ piece .length < pieceRoom ⌝ }
     ensures { λ r. ⌜ r ≡ grown piece (byte ∷ []) ⌝ }
 {
     let at = piece.length;
@@ -38,7 +41,7 @@ pub fn put_byte(piece: Piece, byte: u8) -> Piece
 }
 
 pub fn put_bytes(piece: Piece, text: &[u8]) -> Piece
-    requires { ⌜ piece .length + length (now text) ≤ 64 ⌝ }
+    requires { ⌜ piece .length + length (now text) ≤ pieceRoom ⌝ }
     ensures { λ r. ⌜ r ≡ grown piece (now (text .entry)) ⌝ }
 {
     let mut longer = piece;
@@ -52,7 +55,7 @@ pub fn put_bytes(piece: Piece, text: &[u8]) -> Piece
 
 // The last digit goes behind those of the tenth.
 pub fn put_number(piece: Piece, n: u64) -> Piece
-    requires { ⌜ piece .length + length (decimal n) ≤ 64 ⌝ }
+    requires { ⌜ piece .length + length (decimal n) ≤ pieceRoom ⌝ }
     ensures { λ r. ⌜ r ≡ grown piece (decimal n) ⌝ }
 {
     if n < 10 {
@@ -64,7 +67,7 @@ pub fn put_number(piece: Piece, n: u64) -> Piece
 
 // The first n values, parted by commas.
 fn put_entries(piece: Piece, values: &[u8], n: usize) -> Piece
-    requires { ⌜ (1 ≤ n) × (n ≤ length (now values)) × (piece .length + length (commaList (take n (now values))) ≤ 64) ⌝ }
+    requires { ⌜ (1 ≤ n) × (n ≤ length (now values)) × (piece .length + length (commaList (take n (now values))) ≤ pieceRoom) ⌝ }
     ensures { λ r. ⌜ r ≡ grown piece (commaList (take n (now (values .entry)))) ⌝ }
 {
     let mut listed = put_number(piece, values[0] as u64);
@@ -79,7 +82,7 @@ fn put_entries(piece: Piece, values: &[u8], n: usize) -> Piece
 
 // A line with a number behind its key.
 pub fn put_line(piece: Piece, key: &[u8], n: u64) -> Piece
-    requires { ⌜ piece .length + length (keyLine (now key) n) ≤ 64 ⌝ }
+    requires { ⌜ piece .length + length (keyLine (now key) n) ≤ pieceRoom ⌝ }
     ensures { λ r. ⌜ r ≡ grown piece (keyLine (now (key .entry)) n) ⌝ }
 {
     let keyed = put_bytes(piece, key);
@@ -89,7 +92,7 @@ pub fn put_line(piece: Piece, key: &[u8], n: u64) -> Piece
 
 // A line with the first n values behind its key.
 pub fn put_list(piece: Piece, key: &[u8], values: &[u8], n: usize) -> Piece
-    requires { ⌜ (1 ≤ n) × (n ≤ length (now values)) × (piece .length + length (listLine (now key) (take n (now values))) ≤ 64) ⌝ }
+    requires { ⌜ (1 ≤ n) × (n ≤ length (now values)) × (piece .length + length (listLine (now key) (take n (now values))) ≤ pieceRoom) ⌝ }
     ensures { λ r. ⌜ r ≡ grown piece (listLine (now (key .entry)) (take n (now (values .entry)))) ⌝ }
 {
     let keyed = put_bytes(piece, key);
@@ -99,7 +102,7 @@ pub fn put_list(piece: Piece, key: &[u8], values: &[u8], n: usize) -> Piece
 
 // A line with two numbers behind its key.
 pub fn put_pair(piece: Piece, key: &[u8], a: u64, b: u64) -> Piece
-    requires { ⌜ piece .length + length (pairLine (now key) a b) ≤ 64 ⌝ }
+    requires { ⌜ piece .length + length (pairLine (now key) a b) ≤ pieceRoom ⌝ }
     ensures { λ r. ⌜ r ≡ grown piece (pairLine (now (key .entry)) a b) ⌝ }
 {
     let keyed = put_bytes(piece, key);
@@ -111,7 +114,7 @@ pub fn put_pair(piece: Piece, key: &[u8], a: u64, b: u64) -> Piece
 
 // The piece's bytes at the front of an output that has room for them; what lies behind stays.
 pub fn copy_out(piece: Piece, out: &mut [u8])
-    requires { ⌜ (piece .length ≤ 64) × (piece .length ≤ length (now out)) ⌝ }
+    requires { ⌜ (piece .length ≤ pieceRoom) × (piece .length ≤ length (now out)) ⌝ }
     ensures { λ r. ⌜ now (out .exit) ≡ sets (now (out .entry)) 0 (take (piece .length) (piece .bytes)) ⌝ }
 {
     let length = piece.length;

@@ -23,7 +23,7 @@ use Rattle.model.proofs.Refusals.{passed-zero}
 use Rattle.askline.specs.Ask.{askLine}
 use Rattle.report.specs.declared.inputs.Look.{Look}
 use Rattle.report.specs.declared.inputs.Look.the-variants.{Asks, Refuses}
-use Rattle.sheet.specs.Sheets.{room}
+use Rattle.answerlines.specs.Outputs.{room}
 use Rattle.report.specs.Report.{Printed, outcome, refusedShown, answeringRead, tracing, looked, looking, following, reporting}
 
 pub look-long : (input : List ℕ) → 65536 < length input → looking input ≡ Refuses InputTooLong

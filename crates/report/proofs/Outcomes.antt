@@ -24,11 +24,11 @@ use Rattle.cuts.specs.declared.Answer.the-variants.{Refused}
 use Rattle.cuts.specs.Outcomes.{AskOutcome, answerNumber, answerFound, asked, refusedAsking, askIn}
 use Rattle.pieces.specs.Lines.{pairLine}
 use Rattle.text.specs.Reading.{ReadOutcome}
-use Rattle.sheet.specs.Printing.{intervalKey, intervalLines, headLines, tailLines, answerLines}
+use Rattle.answerlines.specs.Printing.{intervalKey, intervalLines, headLines, tailLines, answerLines}
 use Rattle.report.specs.Answers.{witnessOf, countOf}
-use Rattle.sheet.specs.Sheets.{LinesAt}
+use Rattle.answerlines.specs.Outputs.{LinesAt}
 use Rattle.report.specs.Report.{Printed, shown, refusedShown, counting, answering, answeringRead, CountedAll}
-use Rattle.sheet.proofs.Placing.{sets-front}
+use Rattle.answerlines.proofs.Placing.{sets-front}
 
 -- the witness, by whether the question fits
 abbrev pick : Bool → Witness → AskOutcome

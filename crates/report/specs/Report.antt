@@ -24,8 +24,8 @@ use Rattle.text.specs.Reading.{ReadOutcome, reading}
 use Rattle.report.specs.declared.Reported.{Reported}
 use Rattle.report.specs.declared.inputs.Look.{Look}
 use Rattle.report.specs.declared.inputs.Look.the-variants.{Asks, Refuses}
-use Rattle.sheet.specs.Printing.{refusedLine, answerLines}
-use Rattle.sheet.specs.Sheets.{room}
+use Rattle.answerlines.specs.Printing.{refusedLine, answerLines}
+use Rattle.answerlines.specs.Outputs.{room}
 use Rattle.report.specs.Answers.{witnessOf, countOf}
 
 -- The refusal's number, 0 for none; its line, where 0 is the ask line or none to name; how many bytes are to be printed; and the

@@ -3,6 +3,7 @@ use crate::Reported;
 use crate::SLOTS;
 use crate::refusals::refuse;
 use crate::totals::count_all;
+use answerlines::write_answer;
 use cuts::Answer;
 use cuts::inner::answer_job;
 use model::Cut;
@@ -12,7 +13,6 @@ use model::Range;
 use model::Record;
 use model::Refusal;
 use model::Verdict;
-use sheet::write_answer;
 use text::reading::ReadAnswer;
 ghost use mathlib.Core.Path.{_≡_};
 ghost use Prim.Native.Nat.{_≤_};
@@ -20,7 +20,7 @@ ghost use lib.ListN.{length};
 ghost use Rattle.model.specs.Store.{storeOf, storeRefusal};
 ghost use Rattle.cuts.specs.Outcomes.{SoundTrace};
 ghost use Rattle.text.specs.Reading.{readOutcome};
-ghost use Rattle.sheet.specs.Sheets.{room};
+ghost use Rattle.answerlines.specs.Outputs.{room};
 ghost use Rattle.report.specs.Report.{printed, counting, answering, answeringRead, ForTrace, Answerable};
 
 // Counts all intervals, and only then writes. The counts stay in a local array until their sum is known to fit.

@@ -9,6 +9,7 @@ ghost use mathlib.Core.Path.{_≡_};
 ghost use Prim.Native.Nat.{_≤_};
 ghost use lib.ListN.{length};
 ghost use Rattle.model.specs.Refusals.{numberOf};
+ghost use Rattle.pieces.specs.Pieces.{pieceRoom};
 ghost use Rattle.report.specs.Report.{printed, refusedShown};
 
 const REFUSED: [u8; 8] = *b"refused=";
@@ -37,7 +38,7 @@ fn refusal_number(why: Refusal) -> u64
 }
 
 pub(crate) fn refuse(why: Refusal, line: usize, out: &mut [u8]) -> Reported
-    requires { ⌜ 64 ≤ length (now out) ⌝ }
+    requires { ⌜ pieceRoom ≤ length (now out) ⌝ }
     ensures { λ r. ⌜ printed r (now (out .exit)) ≡ refusedShown (numberOf why) line (now (out .entry)) ⌝ }
 {
     let number = refusal_number(why);

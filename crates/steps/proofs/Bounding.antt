@@ -18,6 +18,16 @@ use Rattle.store.proofs.Ready.{tested-sound, tested-full}
 use Rattle.steps.specs.Spans.{Countable, IntervalReady}
 use Rattle.steps.specs.Walk.{Span}
 
+-- what can be counted up to a position can be counted up to each before it
+pub countable-part : {order : List ℕ} {p : ℕ} → Countable order p → (q : ℕ) → q ≤ p → Countable order q
+countable-part c q h =
+    record {
+      long = omega (arith, c .long);
+      positive = λ k hk. c .positive k (omega arith);
+      listed = λ k hk. c .listed k (omega arith);
+      bounded = λ k j hk. c .bounded k j (omega arith);
+    }
+
 -- the event at position p: its tablet's column, and its number there by the tallies after it
 module _ (clocks order : List ℕ) (p : ℕ) (ready : IntervalReady clocks order p) (some : 1 ≤ p) where
   abbrev own : ℕ

@@ -2,7 +2,7 @@
 use mathlib.Core.Path.{_≡_, refl, sym, ap, _∙_}
 use mathlib.Core.Bool.{Bool, _&&_}
 use mathlib.Core.List.{List, []}
-use Prim.Native.Nat.{ℕ}
+use Prim.Native.Nat.{ℕ, _+_}
 use Rattle.model.specs.declared.Cut.{Cut}
 use Rattle.model.specs.declared.Position.{Position}
 use Rattle.model.specs.Clocks.{clockAt, covered}
@@ -21,6 +21,9 @@ next-cut-unique clocks low high G a b first second p q =
 
 pub in-span-unique : (clocks : List ℕ) (span : Span) (cut : Cut) (a b : Bool) → a ≡ (covered (span .low .counts) (cut .counts) && consistent (clockAt clocks) (span .high .counts) (cut .counts)) → b ≡ (covered (span .low .counts) (cut .counts) && consistent (clockAt clocks) (span .high .counts) (cut .counts)) → a ≡ b
 in-span-unique clocks span cut a b p q = p ∙ sym q
+
+pub tally-next-unique : (order : List ℕ) (position : Position) (exit other : List ℕ) → exit ≡ tallies order (position .0 + 1) → other ≡ tallies order (position .0 + 1) → exit ≡ other
+tally-next-unique order position exit other p q = p ∙ sym q
 
 pub tallies-after-unique : (order : List ℕ) (position : Position) (a b : List ℕ) → a ≡ tallies order (position .0) → b ≡ tallies order (position .0) → a ≡ b
 tallies-after-unique order position a b p q = p ∙ sym q

@@ -17,19 +17,27 @@ pub struct Span {
     pub high: Cut,
 }
 
+// The tallies after one position more: that of the event's tablet is raised. They are changed in place.
+pub fn tally_next(order: &[u8], position: Position, counts: &mut [u8; 8])
+    requires { ⌜ Countable (now order) (position .0 + 1) × (now counts ≡ tallies (now order) (position .0)) ⌝ }
+    ensures { λ r. ⌜ now (counts .exit) ≡ tallies (now (order .entry)) (position .0 + 1) ⌝ }
+{
+    let byte = order[position.0 as usize];
+    let own = (byte - 1) as usize;
+    counts[own] = counts[own] + 1;
+}
+
 // The tallies after a position, counted along the order list; before the first event (position 0) all are 0.
 pub fn tallies_after(order: &[u8], position: Position) -> [u8; 8]
     requires { ⌜ Countable (now order) (position .0) ⌝ }
     ensures { λ r. ⌜ r ≡ tallies (now (order .entry)) (position .0) ⌝ }
 {
-    let p = position.0 as usize;
+    let last = position.0;
     let mut counts = [0u8; 8];
-    let mut q: usize = 0;
-    while q < p {
-        let byte = order[q];
-        let own = (byte - 1) as usize;
-        counts[own] = counts[own] + 1;
-        q += 1;
+    let mut p: u16 = 0;
+    while p < last {
+        tally_next(order, Position(p), &mut counts);
+        p += 1;
     }
     counts
 }

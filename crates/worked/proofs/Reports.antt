@@ -17,7 +17,7 @@ use Rattle.askline.specs.Ask.{allForm, exactlyForm, askOf, askLine}
 use Rattle.loglines.specs.Keys.{numberLine, clockLine, endsHere}
 use Rattle.loglines.specs.Events.{heldPart, clockPart, eventLines}
 use Rattle.text.specs.Reading.{ending, turn, readOn, beginning, reading}
-use Rattle.sheet.specs.Printing.{witnessLine, headLines, tailLines, answerLines}
+use Rattle.answerlines.specs.Printing.{witnessLine, headLines, tailLines, answerLines}
 use Rattle.report.specs.Report.{counting, answering, answeringRead, tracing, looking, reporting}
 use Rattle.worked.specs.Reports.{table}
 

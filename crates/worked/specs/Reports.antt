@@ -8,7 +8,7 @@ use Rattle.model.specs.Cases.{same}
 use Rattle.askline.specs.Ask.{atLeastKey, exactlyKey, allKey}
 use Rattle.pieces.specs.Lines.{keyLine, listLine, pairLine}
 use Rattle.loglines.specs.Keys.{tabletsKey, tabletKey, clockKey, heldKey, eventsKey}
-use Rattle.sheet.specs.Printing.{intervalKey, cutsKey, witnessKey, noWitness, refusedLine}
+use Rattle.answerlines.specs.Printing.{intervalKey, cutsKey, witnessKey, noWitness, refusedLine}
 use Rattle.report.specs.Report.{Printed, reporting}
 
 -- printed from an input, into fresh buffers

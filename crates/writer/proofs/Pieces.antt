@@ -21,7 +21,7 @@ use Rattle.model.proofs.Sound.{Sound, Full, follows-at}
 use Rattle.model.proofs.Slots.{clock-in-long, part-clock}
 use Rattle.store.proofs.Ready.{tested-sound, tested-full}
 use Rattle.pieces.specs.declared.Piece.{Piece}
-use Rattle.pieces.specs.Pieces.{grown, emptyPiece, contents}
+use Rattle.pieces.specs.Pieces.{pieceRoom, grown, emptyPiece, contents}
 use Rattle.pieces.specs.Lines.{keyLine, listLine}
 use Rattle.pieces.proofs.Growing.{put-contents, contents-length}
 use Rattle.pieces.proofs.Putting.{put-empty, put-two}
@@ -179,7 +179,7 @@ module _ (s : Store) (p : ℕ) (out : List ℕ) where
           sym (told-done (by-room ∙ ap (λ (b : Bool). cond b 14 0) (le-ltb (length out) (length (pieceText s p)) h)))
 
       -- the piece as it was put together and copied
-      pub write-copied : (piece : Piece) (exit : List ℕ) → piece ≡ grown emptyPiece (pieceText s p) → piece .length ≤ 64 → piece .length ≤ length out → exit ≡ sets out 0 (contents piece) → record { refusal = 0; length = piece .length; output = exit } ≡ writing s p out
+      pub write-copied : (piece : Piece) (exit : List ℕ) → piece ≡ grown emptyPiece (pieceText s p) → piece .length ≤ pieceRoom → piece .length ≤ length out → exit ≡ sets out 0 (contents piece) → record { refusal = 0; length = piece .length; output = exit } ≡ writing s p out
       write-copied piece exit is few fits e =
           let long : piece .length ≡ length (pieceText s p) = contents-length piece (pieceText s p) is in
           let bytes : contents piece ≡ pieceText s p = ap contents is ∙ put-contents (pieceText s p) (omega arith) in

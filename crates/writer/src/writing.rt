@@ -21,7 +21,7 @@ ghost use lib.ListN.{length, take};
 ghost use Rattle.model.specs.Numbers.{column, slot};
 ghost use Rattle.model.specs.Follow.{tally, columnAt, eventAt};
 ghost use Rattle.model.specs.Store.{storeOf, storeRefusal};
-ghost use Rattle.pieces.specs.Pieces.{grown, emptyPiece};
+ghost use Rattle.pieces.specs.Pieces.{pieceRoom, grown, emptyPiece};
 ghost use Rattle.writer.specs.Writing.{threeLines, eventText, pieceText, Placed, Writable};
 
 // How many of the first `count` order bytes name a tablet.
@@ -56,7 +56,7 @@ fn slot_at(order: &[u8], position: Position) -> usize
 // The three lines of an event.
 fn three_lines(tablet: Tablet, clock: &[u8], n: usize, held: u16) -> Piece
     requires { ⌜ (1 ≤ n) × (n ≤ 8) × (length (now clock) ≡ 8) ⌝ }
-    ensures { λ r. ⌜ (r ≡ grown emptyPiece (threeLines (tablet .0) (take n (now (clock .entry))) held)) × (r .length ≤ 64) ⌝ }
+    ensures { λ r. ⌜ (r ≡ grown emptyPiece (threeLines (tablet .0) (take n (now (clock .entry))) held)) × (r .length ≤ pieceRoom) ⌝ }
 {
     let first = put_line(empty_piece(), &TABLET, tablet.0 as u64);
     let second = put_list(first, &CLOCK, clock, n);
@@ -72,7 +72,7 @@ fn event_piece(
     position: Position,
 ) -> Piece
     requires { ⌜ (1 ≤ position .0) × Writable (storeOf «record» (now clocks) (now held) (now order)) (position .0 - 1) ⌝ }
-    ensures { λ r. ⌜ (r ≡ grown emptyPiece (eventText (storeOf «record» (now (clocks .entry)) (now (held .entry)) (now (order .entry))) (position .0 - 1))) × (r .length ≤ 64) ⌝ }
+    ensures { λ r. ⌜ (r ≡ grown emptyPiece (eventText (storeOf «record» (now (clocks .entry)) (now (held .entry)) (now (order .entry))) (position .0 - 1))) × (r .length ≤ pieceRoom) ⌝ }
 {
     let q = (position.0 - 1) as usize;
     let byte = order[q];
@@ -95,7 +95,7 @@ pub(crate) fn piece_of(
     piece: PieceNumber,
 ) -> Piece
     requires { ⌜ storeRefusal (storeOf «record» (now clocks) (now held) (now order)) ≡ 0 ⌝ }
-    ensures { λ r. ⌜ (r ≡ grown emptyPiece (pieceText (storeOf «record» (now (clocks .entry)) (now (held .entry)) (now (order .entry))) (piece .0))) × (r .length ≤ 64) ⌝ }
+    ensures { λ r. ⌜ (r ≡ grown emptyPiece (pieceText (storeOf «record» (now (clocks .entry)) (now (held .entry)) (now (order .entry))) (piece .0))) × (r .length ≤ pieceRoom) ⌝ }
 {
     if piece.0 == 0 {
         return put_line(empty_piece(), &TABLETS, record.tablets as u64);

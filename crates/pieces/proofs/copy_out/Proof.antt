@@ -6,6 +6,7 @@ use native.Mathlib.Omega.{arith}
 use borrow.Author.Needs.{needs}
 use lib.ListN.{take, getD, set}
 use lib.Seq.{sets, length-sets}
+use Rattle.pieces.specs.Pieces.{pieceRoom}
 use Rattle.pieces.proofs.Growing.{sets-more}
 use Rattle.pieces.proofs.copy_out.Statement.{statement}
 use lib.ListN as lists
@@ -17,8 +18,8 @@ Inv-loop out₀ length bytes i₀ out i = (i ≤ length) × (out ≡ sets out₀
 abbrev μ-loop : tie.MeasureT-loop
 μ-loop out₀ length bytes i₀ out i = length - i
 
-sixty-four : (c : tie.Start Inv-loop μ-loop) → lists.length (c .args .piece .bytes) ≡ 64
-sixty-four c = search needs
+whole-room : (c : tie.Start Inv-loop μ-loop) → lists.length (c .args .piece .bytes) ≡ pieceRoom
+whole-room c = search needs
 
 same-long : (c : tie.At-loop Inv-loop μ-loop) → lists.length (c .loop .out) ≡ lists.length (c .before .before .args .out .now)
 same-long c =
@@ -43,7 +44,7 @@ loop-again : tie.Need-loop-again Inv-loop μ-loop
 loop-again c =
     let a = c .before .before .before .args in
     let i = c .before .loop .i in
-    (omega arith, ap (λ (l : List ℕ). set l i (getD (a .piece .bytes) i 0)) (c .before .loop .inv .1) ∙ sets-more (a .out .now) (a .piece .bytes) i (omega (arith, sixty-four (c .before .before .before))))
+    (omega arith, ap (λ (l : List ℕ). set l i (getD (a .piece .bytes) i 0)) (c .before .loop .inv .1) ∙ sets-more (a .out .now) (a .piece .bytes) i (omega (arith, whole-room (c .before .before .before))))
 
 same-length : tie.Need-same-length Inv-loop μ-loop
 same-length c = same-long (c .before)

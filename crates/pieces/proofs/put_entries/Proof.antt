@@ -6,7 +6,7 @@ use native.Mathlib.Omega.{arith}
 use lib.ListN.{length, getD, take, drop}
 use Rattle.lines.specs.Numbers.{decimal}
 use Rattle.lines.specs.Lists.{commaList, moreEntries}
-use Rattle.pieces.specs.Pieces.{grown}
+use Rattle.pieces.specs.Pieces.{pieceRoom, grown}
 use Rattle.pieces.proofs.Growing.{grown-none}
 use Rattle.pieces.proofs.Putting.{put-length, put-two, entry-put, entries-on, all-entries, first-fits, entry-fits}
 use Rattle.pieces.proofs.put_entries.Statement.{statement}
@@ -20,7 +20,7 @@ abbrev μ-loop : tie.MeasureT-loop
 μ-loop values n listed₀ j₀ listed j = n - j
 
 -- room for the whole list is room for the entry that is due
-entry-room : (c : tie.In-loop Inv-loop μ-loop) → c .before .loop .listed .length + 1 + length (decimal (getD (c .before .before .before .before .before .args .values .now) (c .before .loop .j) 0)) ≤ 64
+entry-room : (c : tie.In-loop Inv-loop μ-loop) → c .before .loop .listed .length + 1 + length (decimal (getD (c .before .before .before .before .before .args .values .now) (c .before .loop .j) 0)) ≤ pieceRoom
 entry-room c =
     let s = c .before .before .before .before .before in
     let values = s .args .values .now in

@@ -4,22 +4,23 @@ use native.Mathlib.Omega.{arith}
 use Prim.Native.Nat.{_+_, _≤_}
 use lib.ListN.{length}
 use Rattle.lines.specs.Numbers.{decimal}
+use Rattle.pieces.specs.Pieces.{pieceRoom}
 use Rattle.pieces.proofs.Lengths.{pair-line-length}
 use Rattle.pieces.proofs.Putting.{put-length, pair-put}
 use Rattle.pieces.proofs.put_pair.Statement.{statement}
 use Rattle.pieces.proofs.put_pair.Tie as tie
 
 -- room for all is room for what is not put yet
-keyed-room : (c : tie.After-put-bytes) → c .put-bytes .result .length + length (decimal (c .before .before .args .a)) + length (decimal (c .before .before .args .b)) + 2 ≤ 64
+keyed-room : (c : tie.After-put-bytes) → c .put-bytes .result .length + length (decimal (c .before .before .args .a)) + length (decimal (c .before .before .args .b)) + 2 ≤ pieceRoom
 keyed-room c =
     let a = c .before .before .args in
     omega (arith, c .before .before .pre, pair-line-length (a .key .now) (a .a) (a .b), put-length (a .piece) (c .put-bytes .result) (a .key .now) (c .put-bytes .ensures))
 
-first-room : (c : tie.After-put-number) → c .put-number .result .length + length (decimal (c .before .before .before .args .b)) + 2 ≤ 64
+first-room : (c : tie.After-put-number) → c .put-number .result .length + length (decimal (c .before .before .before .args .b)) + 2 ≤ pieceRoom
 first-room c =
     omega (arith, keyed-room (c .before), put-length (c .before .put-bytes .result) (c .put-number .result) (decimal (c .before .before .before .args .a)) (c .put-number .ensures))
 
-parted-room : (c : tie.After-put-byte) → c .put-byte .result .length + length (decimal (c .before .before .before .before .args .b)) + 1 ≤ 64
+parted-room : (c : tie.After-put-byte) → c .put-byte .result .length + length (decimal (c .before .before .before .before .args .b)) + 1 ≤ pieceRoom
 parted-room c =
     omega (arith, first-room (c .before), put-length (c .before .put-number .result) (c .put-byte .result) (44 ∷ []) (c .put-byte .ensures))
 

@@ -9,7 +9,7 @@ use Rattle.pieces.specs.Pieces.{grown, emptyPiece}
 use Rattle.pieces.specs.Lines.{pairLine}
 use Rattle.pieces.proofs.Putting.{put-empty, empty-length}
 use Rattle.pieces.proofs.Growing.{contents-length}
-use Rattle.sheet.specs.Printing.{refusedKey, refusedLine}
+use Rattle.answerlines.specs.Printing.{refusedKey, refusedLine}
 use Rattle.report.proofs.Showing.{pair-most, piece-shown}
 use borrow.Author.Needs.{needs}
 use Rattle.report.proofs.refusals.refuse.Statement.{statement}

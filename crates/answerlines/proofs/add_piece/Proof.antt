@@ -7,10 +7,10 @@ use borrow.Rule.Slice.PartMut.{putMid}
 use lib.ListN.{length, take}
 use lib.Seq.{sets}
 use Rattle.pieces.proofs.Growing.{contents-length}
-use Rattle.sheet.proofs.Placing.{piece-text, part-sets}
+use Rattle.answerlines.proofs.Placing.{piece-text, part-sets}
 use borrow.Author.Needs.{needs}
-use Rattle.sheet.proofs.add_piece.Statement.{statement}
-use Rattle.sheet.proofs.add_piece.Tie as tie
+use Rattle.answerlines.proofs.add_piece.Statement.{statement}
+use Rattle.answerlines.proofs.add_piece.Tie as tie
 
 sub-copy-out : tie.Need-sub-copy-out
 sub-copy-out c = search needs

@@ -1,3 +1,3 @@
 -- Document 01, "What cutcheck prints": the lines, and how they stand in an output.
 pub mod Printing
-pub mod Sheets
+pub mod Outputs

@@ -9,11 +9,11 @@ use Rattle.pieces.specs.Pieces.{grown, emptyPiece}
 use Rattle.pieces.specs.Lines.{listLine}
 use Rattle.pieces.proofs.Putting.{put-empty, empty-length}
 use Rattle.pieces.proofs.Growing.{contents-length}
-use Rattle.sheet.specs.Printing.{witnessKey}
-use Rattle.sheet.proofs.Lines.{witness-none, witness-cut, witness-most}
+use Rattle.answerlines.specs.Printing.{witnessKey}
+use Rattle.answerlines.proofs.Lines.{witness-none, witness-cut, witness-most}
 use borrow.Author.Needs.{needs}
-use Rattle.sheet.proofs.put_witness.Statement.{statement}
-use Rattle.sheet.proofs.put_witness.Tie as tie
+use Rattle.answerlines.proofs.put_witness.Statement.{statement}
+use Rattle.answerlines.proofs.put_witness.Tie as tie
 
 short : (c : tie.After-shared-slice-known) → length (listLine witnessKey (take (c .before .args .n) (c .before .args .cut .now))) ≤ 40
 short c =

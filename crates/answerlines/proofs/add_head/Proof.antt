@@ -7,11 +7,11 @@ use Rattle.pieces.specs.Lines.{keyLine}
 use Rattle.pieces.proofs.Putting.{put-empty, put-two, empty-length}
 use Rattle.pieces.proofs.Growing.{contents-length}
 use Rattle.loglines.specs.Keys.{tabletsKey}
-use Rattle.sheet.specs.Printing.{headLines}
-use Rattle.sheet.proofs.Lines.{tablets-most, events-most, head-most}
+use Rattle.answerlines.specs.Printing.{headLines}
+use Rattle.answerlines.proofs.Lines.{tablets-most, events-most, head-most}
 use borrow.Author.Needs.{needs}
-use Rattle.sheet.proofs.add_head.Statement.{statement}
-use Rattle.sheet.proofs.add_head.Tie as tie
+use Rattle.answerlines.proofs.add_head.Statement.{statement}
+use Rattle.answerlines.proofs.add_head.Tie as tie
 
 first-is : (c : tie.After-put-line) → c .put-line .result ≡ grown emptyPiece (keyLine tabletsKey (c .before .before .before .before .before .args .«record» .tablets))
 first-is c = put-empty (c .before .before .before .empty-piece .result) (c .put-line .result) _ (c .before .before .before .empty-piece .ensures) (c .put-line .ensures)

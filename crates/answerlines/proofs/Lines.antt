@@ -11,8 +11,8 @@ use Rattle.pieces.specs.Lines.{keyLine, listLine, pairLine}
 use Rattle.pieces.proofs.Growing.{sets-append}
 use Rattle.pieces.proofs.Lengths.{small-take, list-long, key-line-length, list-line-length, pair-line-length, wide-digits, decimal-length}
 use Rattle.loglines.specs.Keys.{tabletsKey, eventsKey}
-use Rattle.sheet.specs.Printing.{intervalKey, intervalLines, cutsKey, witnessKey, noWitness, witnessLine, headLines}
-use Rattle.sheet.specs.Sheets.{LinesAt}
+use Rattle.answerlines.specs.Printing.{intervalKey, intervalLines, cutsKey, witnessKey, noWitness, witnessLine, headLines}
+use Rattle.answerlines.specs.Outputs.{LinesAt}
 
 -- nothing written
 pub no-lines : (out : List ℕ) (at : ℕ) → LinesAt out at [] at out

@@ -1,11 +1,11 @@
 -- `write_answer`: the head, the intervals, the tail.
 use native.Mathlib.Omega.{arith}
 use borrow.Author.Needs.{needs}
-use Rattle.sheet.specs.Printing.{answerLines}
-use Rattle.sheet.proofs.Lines.{lines-join, lines-long}
+use Rattle.answerlines.specs.Printing.{answerLines}
+use Rattle.answerlines.proofs.Lines.{lines-join, lines-long}
 use borrow.Author.Needs.{needs}
-use Rattle.sheet.proofs.write_answer.Statement.{statement}
-use Rattle.sheet.proofs.write_answer.Tie as tie
+use Rattle.answerlines.proofs.write_answer.Statement.{statement}
+use Rattle.answerlines.proofs.write_answer.Tie as tie
 
 add-head-requires : tie.Need-add-head-requires
 add-head-requires c κs = let w = c .before .before .before .before .pre in (w .most, w .few, omega (arith, w .fits))

@@ -1,4 +1,4 @@
-// The sheet that `cutcheck` prints for an answer: its lines, one behind the other in the output. Nothing here knows a store.
+// The lines that `cutcheck` prints for an answer, one behind the other in the output. Nothing here knows a store.
 use loglines::keys::EVENTS;
 use loglines::keys::TABLETS;
 use model::Record;
@@ -14,9 +14,9 @@ ghost use mathlib.Core.List.{List};
 ghost use Prim.Native.Nat.{ℕ, _+_, _*_, _≤_};
 ghost use lib.ListN.{length};
 ghost use Rattle.model.specs.Lists.{at};
-ghost use Rattle.pieces.specs.Pieces.{grown, emptyPiece};
-ghost use Rattle.sheet.specs.Printing.{intervalLines, witnessLine, headLines, tailLines, answerLines};
-ghost use Rattle.sheet.specs.Sheets.{room, Holds, Writable, LinesAt};
+ghost use Rattle.pieces.specs.Pieces.{pieceRoom, grown, emptyPiece};
+ghost use Rattle.answerlines.specs.Printing.{intervalLines, witnessLine, headLines, tailLines, answerLines};
+ghost use Rattle.answerlines.specs.Outputs.{room, Holds, Writable, LinesAt};
 
 const INTERVAL: [u8; 9] = *b"interval=";
 
@@ -28,7 +28,7 @@ const NO_WITNESS: [u8; 13] = *b"witness=none\n";
 
 // A piece at an offset of the output; gives the offset behind it.
 fn add_piece(piece: Piece, at: usize, out: &mut [u8]) -> usize
-    requires { ⌜ (piece .length ≤ 64) × (at + piece .length ≤ length (now out)) ⌝ }
+    requires { ⌜ (piece .length ≤ pieceRoom) × (at + piece .length ≤ length (now out)) ⌝ }
     ensures { λ r. ⌜ ((text : List ℕ) → Holds piece text → LinesAt (now (out .entry)) at text r (now (out .exit))) ⌝ }
 {
     copy_out(piece, &mut out[at..]);
@@ -37,7 +37,7 @@ fn add_piece(piece: Piece, at: usize, out: &mut [u8]) -> usize
 
 // `tablets` and `events`, at the front.
 fn add_head(record: Record, out: &mut [u8]) -> usize
-    requires { ⌜ («record» .tablets ≤ 8) × («record» .events ≤ 2032) × (64 ≤ length (now out)) ⌝ }
+    requires { ⌜ («record» .tablets ≤ 8) × («record» .events ≤ 2032) × (22 ≤ length (now out)) ⌝ }
     ensures { λ r. ⌜ (r ≤ 22) × LinesAt (now (out .entry)) 0 (headLines («record» .tablets) («record» .events)) r (now (out .exit)) ⌝ }
 {
     let first = put_line(empty_piece(), &TABLETS, record.tablets as u64);

@@ -9,11 +9,11 @@ use Rattle.pieces.specs.Pieces.{grown, emptyPiece}
 use Rattle.pieces.specs.Lines.{pairLine}
 use Rattle.pieces.proofs.Putting.{put-empty, empty-length}
 use Rattle.pieces.proofs.Growing.{contents-length}
-use Rattle.sheet.specs.Printing.{intervalKey, intervalLines}
-use Rattle.sheet.specs.Sheets.{LinesAt}
-use Rattle.sheet.proofs.Lines.{no-lines, lines-join, lines-same, lines-long, interval-most, lines-next, lines-longer}
-use Rattle.sheet.proofs.add_intervals.Statement.{statement}
-use Rattle.sheet.proofs.add_intervals.Tie as tie
+use Rattle.answerlines.specs.Printing.{intervalKey, intervalLines}
+use Rattle.answerlines.specs.Outputs.{LinesAt}
+use Rattle.answerlines.proofs.Lines.{no-lines, lines-join, lines-same, lines-long, interval-most, lines-next, lines-longer}
+use Rattle.answerlines.proofs.add_intervals.Statement.{statement}
+use Rattle.answerlines.proofs.add_intervals.Tie as tie
 
 abbrev Inv-loop : tie.InvT-loop
 Inv-loop counts events from out₀ behind₀ p₀ t8 out behind p =

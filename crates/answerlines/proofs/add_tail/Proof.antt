@@ -9,11 +9,11 @@ use Rattle.pieces.specs.Pieces.{grown, emptyPiece}
 use Rattle.pieces.specs.Lines.{keyLine}
 use Rattle.pieces.proofs.Putting.{put-empty, empty-length}
 use Rattle.pieces.proofs.Growing.{contents-length}
-use Rattle.sheet.specs.Printing.{cutsKey, witnessLine, tailLines}
-use Rattle.sheet.proofs.Lines.{cuts-most, lines-join, lines-long}
+use Rattle.answerlines.specs.Printing.{cutsKey, witnessLine, tailLines}
+use Rattle.answerlines.proofs.Lines.{cuts-most, lines-join, lines-long}
 use borrow.Author.Needs.{needs}
-use Rattle.sheet.proofs.add_tail.Statement.{statement}
-use Rattle.sheet.proofs.add_tail.Tie as tie
+use Rattle.answerlines.proofs.add_tail.Statement.{statement}
+use Rattle.answerlines.proofs.add_tail.Tie as tie
 
 short : (c : tie.Start) → length (keyLine cutsKey (c .args .sum)) ≤ 26
 short c = cuts-most (c .args .sum) (omega arith)

@@ -6,7 +6,7 @@ use lib.ListN.{length}
 use lib.Seq.{sets}
 use Rattle.model.specs.declared.Record.{Record}
 use Rattle.pieces.specs.declared.Piece.{Piece}
-use Rattle.pieces.specs.Pieces.{grown, emptyPiece}
+use Rattle.pieces.specs.Pieces.{pieceRoom, grown, emptyPiece}
 
 -- Our choice, since document 01 has no rule for a report's output: it has 71,680 bytes or more, as the store's buffers are of
 -- full size, and a shorter one is refused 14 before all else and left as it was. No report is longer than 71,243 bytes: tablets
@@ -26,7 +26,7 @@ pub record Writable (r : Record) (counts cut out : List ℕ) : Type 0 where
 -- a piece that has a text and nothing else
 pub record Holds (piece : Piece) (text : List ℕ) : Type 0 where
   pub holds : piece ≡ grown emptyPiece text
-  pub short : length text ≤ 64
+  pub short : length text ≤ pieceRoom
 
 -- lines written at an offset: the offset behind them, and the output at exit
 pub record LinesAt (out : List ℕ) (at : ℕ) (lines : List ℕ) (behind : ℕ) (exit : List ℕ) : Type 0 where

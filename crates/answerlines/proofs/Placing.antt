@@ -7,7 +7,7 @@ use borrow.Rule.Slice.PartMut.{putMid}
 use lib.ListN.{length, take, drop, length-drop, drop-of-length-le}
 use lib.Seq.{sets, sets-eq, take-all, drop-drop}
 use Rattle.pieces.specs.declared.Piece.{Piece}
-use Rattle.pieces.specs.Pieces.{grown, emptyPiece, contents}
+use Rattle.pieces.specs.Pieces.{pieceRoom, grown, emptyPiece, contents}
 use Rattle.pieces.proofs.Growing.{put-contents}
 
 -- written at offset 0
@@ -18,7 +18,7 @@ sets-front out text fits =
     sets-eq text out 0 h ∙ ap (λ (k : ℕ). text ++ drop k out) none
 
 -- a piece is its text
-pub piece-text : (p : Piece) (text : List ℕ) → p ≡ grown emptyPiece text → length text ≤ 64 → take (p .length) (p .bytes) ≡ text
+pub piece-text : (p : Piece) (text : List ℕ) → p ≡ grown emptyPiece text → length text ≤ pieceRoom → take (p .length) (p .bytes) ≡ text
 piece-text p text is fits = ap contents is ∙ put-contents text fits
 
 -- bytes written at the front of the part behind an offset, and put back
