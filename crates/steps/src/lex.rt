@@ -21,7 +21,7 @@ fn known_entry(clocks: &[u8], tablet: Tablet, number: EventNumber, other: Tablet
         return 0;
     }
     let from = 8 * slot_of(tablet, number);
-    let j = (other.0 - 1) as usize;
+    let j = other.0 as usize - 1;
     clocks[from + j]
 }
 
@@ -29,7 +29,7 @@ fn can_raise(clocks: &[u8], high: &[u8; 8], counts: &[u8; 8], tablet: Tablet) ->
     requires { ⌜ (16256 ≤ length (now clocks)) × (1 ≤ tablet .0) × (tablet .0 ≤ 8) × (at (now high) (column tablet) ≤ 254) ⌝ }
     ensures { λ r. ⌜ r ≡ canRaise (clockAt (now (clocks .entry))) (now (high .entry)) (now (counts .entry)) (column tablet) ⌝ }
 {
-    let own = (tablet.0 - 1) as usize;
+    let own = tablet.0 as usize - 1;
     let count = counts[own];
     if high[own] <= count {
         return false;
@@ -70,7 +70,7 @@ fn raise(n: u8, clocks: &[u8], low: &[u8; 8], counts: &mut [u8; 8], tablet: Tabl
     requires { ⌜ (1 ≤ tablet .0) × Liftable n (now clocks) (now low) (now counts) (column tablet) ⌝ }
     ensures { λ r. ⌜ now (counts .exit) ≡ raised (clockAt (now (clocks .entry))) (now (low .entry)) (now (counts .entry)) (column tablet) ⌝ }
 {
-    let own = (tablet.0 - 1) as usize;
+    let own = tablet.0 as usize - 1;
     counts[own] = counts[own] + 1;
     let mut i = tablet.0;
     while i < n {
