@@ -22,12 +22,9 @@ Inv-loop clocks counts other floor most₀ left₀ most left =
 abbrev μ-loop : tie.MeasureT-loop
 μ-loop clocks counts other floor most₀ left₀ most left = left
 
--- what the tablets know of the other, and the largest of all, where the call began
+-- what the tablets know of the other, where the call began
 abbrev told : tie.Start Inv-loop μ-loop → ℕ → ℕ
 told s = knows (s .args .clocks .now) (s .args .counts .now) (column (s .args .other))
-
-abbrev all : tie.Start Inv-loop μ-loop → ℕ
-all s = max (s .args .floor) (maxBelow (s .args .last .0) (told s))
 
 loop-holds : tie.Need-loop-holds Inv-loop μ-loop
 loop-holds c = (omega arith, refl)
@@ -54,7 +51,7 @@ known-entry-requires c κs =
     )
 
 sub-left : tie.Need-sub-left Inv-loop μ-loop
-sub-left c = c .before .before .before .loop-test .taken
+sub-left c = omega (arith, c .before .before .before .loop-test .taken)
 
 loop-less : tie.Need-loop-less Inv-loop μ-loop
 loop-less c = omega (arith, c .before .before .before .loop-test .taken)
@@ -67,8 +64,8 @@ loop-again c =
     let entry = c .before .known-entry in (
       omega (arith, l .inv .0),
       ⊎-elim
-          (λ w. ap (λ (m : ℕ). max m (maxBelow (l .left - 1) (told s))) (w .1) ∙ max-taken (l .left) (told s) (l .most) (entry .result) (all s) some (l .inv .1) (entry .ensures) (w .0 .taken))
-          (λ w. ap (λ (m : ℕ). max m (maxBelow (l .left - 1) (told s))) (w .1) ∙ max-kept (l .left) (told s) (l .most) (entry .result) (all s) some (l .inv .1) (entry .ensures) (w .0 .left))
+          (λ w. ap (λ (m : ℕ). max m (maxBelow (l .left - 1) (told s))) (w .1) ∙ max-taken (l .left) (told s) (l .most) (entry .result) _ some (l .inv .1) (entry .ensures) (w .0 .taken))
+          (λ w. ap (λ (m : ℕ). max m (maxBelow (l .left - 1) (told s))) (w .1) ∙ max-kept (l .left) (told s) (l .most) (entry .result) _ some (l .inv .1) (entry .ensures) (w .0 .left))
           (c .if1 .came),
     )
 
