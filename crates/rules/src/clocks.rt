@@ -12,7 +12,7 @@ pub fn slot_of(tablet: Tablet, number: EventNumber) -> usize
     requires { ⌜ (1 ≤ tablet .0) × (tablet .0 ≤ 8) × (1 ≤ number .0) × (number .0 ≤ 254) ⌝ }
     ensures { λ r. ⌜ r ≡ slotOf tablet number ⌝ }
 {
-    (tablet.0 - 1) as usize * 254 + (number.0 - 1) as usize
+    (tablet.0 as usize - 1) * 254 + (number.0 as usize - 1)
 }
 
 // Whether the clock stored at a slot is at most another in each entry.

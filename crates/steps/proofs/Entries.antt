@@ -2,9 +2,8 @@
 use mathlib.Core.Path.{_≡_, sym, ap, ap₂, _∙_}
 use mathlib.Core.Bool.{Bool, true, false, _&&_}
 use mathlib.Core.List.{List}
-use Prim.Native.Nat.{ℕ, _+_, _*_, _≤_, _<_, max}
+use Prim.Native.Nat.{ℕ, zero, suc, _+_, _-_, _*_, _≤_, _<_, max}
 use native.Mathlib.Omega.{arith}
-use native.Mathlib.Numerals.{add-one}
 use borrow.Author.Tests.{lt-ltb, le-ltb, lt-leb}
 use lib.Dec.{leb}
 use Rattle.model.specs.Lists.{at, allBelow, maxBelow}
@@ -35,12 +34,16 @@ module _ (clk : Clocks) (high G : List ℕ) (k : ℕ) where
   unfolding canRaise
   raise-ready room ready = ap₂ _&&_ (lt-ltb (at G k) (at high k) room) ready
 
--- one more number for the largest so far
-max-next : (i : ℕ) (f : ℕ → ℕ) (floor : ℕ) → max floor (maxBelow (i + 1) f) ≡ max (max floor (maxBelow i f)) (f i)
-max-next i f floor = ap (λ (m : ℕ). max floor (maxBelow m f)) (add-one i) ∙ omega arith
+-- the largest of the first i numbers, told by the last of them
+max-top : (i : ℕ) (f : ℕ → ℕ) → 1 ≤ i → maxBelow i f ≡ max (maxBelow (i - 1) f) (f (i - 1))
+max-top zero f some = let z : ⊥ = omega arith in absurd z
+max-top (suc i) f some =
+    let down : i ≡ suc i - 1 = omega arith in
+    ap (λ (m : ℕ). max (maxBelow m f) (f m)) down
 
-pub max-taken : (i : ℕ) (f : ℕ → ℕ) (floor most entry : ℕ) → most ≡ max floor (maxBelow i f) → entry ≡ f i → most < entry → entry ≡ max floor (maxBelow (i + 1) f)
-max-taken i f floor most entry m e h = omega (arith, max-next i f floor)
+-- it is taken over into the largest so far, and the others are left
+pub max-taken : (i : ℕ) (f : ℕ → ℕ) (most entry all : ℕ) → 1 ≤ i → max most (maxBelow i f) ≡ all → entry ≡ f (i - 1) → most < entry → max entry (maxBelow (i - 1) f) ≡ all
+max-taken i f most entry all some m e h = omega (arith, max-top i f some)
 
-pub max-kept : (i : ℕ) (f : ℕ → ℕ) (floor most entry : ℕ) → most ≡ max floor (maxBelow i f) → entry ≡ f i → entry ≤ most → most ≡ max floor (maxBelow (i + 1) f)
-max-kept i f floor most entry m e h = omega (arith, max-next i f floor)
+pub max-kept : (i : ℕ) (f : ℕ → ℕ) (most entry all : ℕ) → 1 ≤ i → max most (maxBelow i f) ≡ all → entry ≡ f (i - 1) → entry ≤ most → max most (maxBelow (i - 1) f) ≡ all
+max-kept i f most entry all some m e h = omega (arith, max-top i f some)

@@ -21,7 +21,7 @@ fn known_entry(clocks: &[u8], tablet: Tablet, number: EventNumber, other: Tablet
         return 0;
     }
     let from = 8 * slot_of(tablet, number);
-    let j = (other.0 - 1) as usize;
+    let j = other.0 as usize - 1;
     clocks[from + j]
 }
 
@@ -29,7 +29,7 @@ fn can_raise(clocks: &[u8], high: &[u8; 8], counts: &[u8; 8], tablet: Tablet) ->
     requires { ⌜ (16256 ≤ length (now clocks)) × (1 ≤ tablet .0) × (tablet .0 ≤ 8) × (at (now high) (column tablet) ≤ 254) ⌝ }
     ensures { λ r. ⌜ r ≡ canRaise (clockAt (now (clocks .entry))) (now (high .entry)) (now (counts .entry)) (column tablet) ⌝ }
 {
-    let own = (tablet.0 - 1) as usize;
+    let own = tablet.0 as usize - 1;
     let count = counts[own];
     if high[own] <= count {
         return false;
@@ -46,22 +46,21 @@ fn can_raise(clocks: &[u8], high: &[u8; 8], counts: &[u8; 8], tablet: Tablet) ->
     true
 }
 
-// The largest of a floor and of what the events of all tablets up to a last one know of another tablet.
+// The largest of a floor and of what the events of all tablets up to a last one know of another tablet, from the last, the
+// newly raised one, down.
 fn least_entry(clocks: &[u8], counts: &[u8; 8], last: Tablet, other: Tablet, floor: u8) -> u8
     requires { ⌜ (1 ≤ last .0) × (1 ≤ other .0) × Known (now clocks) (now counts) (column last) (column other) ⌝ }
     ensures { λ r. ⌜ r ≡ max floor (maxBelow (last .0) (λ i. at (known (clockAt (now (clocks .entry))) i (at (now (counts .entry)) i)) (column other))) ⌝ }
 {
-    let own = last.0 - 1;
     let mut most = floor;
-    let mut i: u8 = 0;
-    while i <= own {
-        let count = counts[i as usize];
-        let number = i + 1;
-        let entry = known_entry(clocks, Tablet(number), EventNumber(count), other);
+    let mut left = last.0;
+    while 0 < left {
+        let count = counts[left as usize - 1];
+        let entry = known_entry(clocks, Tablet(left), EventNumber(count), other);
         if most < entry {
             most = entry;
         }
-        i = number;
+        left -= 1;
     }
     most
 }
@@ -70,7 +69,7 @@ fn raise(n: u8, clocks: &[u8], low: &[u8; 8], counts: &mut [u8; 8], tablet: Tabl
     requires { ⌜ (1 ≤ tablet .0) × Liftable n (now clocks) (now low) (now counts) (column tablet) ⌝ }
     ensures { λ r. ⌜ now (counts .exit) ≡ raised (clockAt (now (clocks .entry))) (now (low .entry)) (now (counts .entry)) (column tablet) ⌝ }
 {
-    let own = (tablet.0 - 1) as usize;
+    let own = tablet.0 as usize - 1;
     counts[own] = counts[own] + 1;
     let mut i = tablet.0;
     while i < n {

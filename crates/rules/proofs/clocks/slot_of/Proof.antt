@@ -28,4 +28,4 @@ unfolding slot
 returns c = omega arith
 
 pub slot-of-spec : {M : Type 1} → statement M
-slot-of-spec = tie.close (tie.spec sub-result cast-result mul-result sub-result-2 cast-result-2 add-result returns)
+slot-of-spec = tie.close (tie.spec cast-result sub-result mul-result cast-result-2 sub-result-2 add-result returns)

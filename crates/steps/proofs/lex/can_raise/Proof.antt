@@ -108,8 +108,8 @@ can-raise-spec =
     (tie.spec
     Inv-loop
     μ-loop
-    sub-own
     cast-own
+    sub-own
     element-copy-out-count
     element-copy-out-if1
     returns

@@ -53,4 +53,4 @@ returns-2 c =
 pub known-entry-spec : {M : Type 1} → statement M
 known-entry-spec =
     tie.close
-    (tie.spec returns slot-of-requires mul-from sub-j cast-j add-result shared-slice-read-result returns-2)
+    (tie.spec returns slot-of-requires mul-from cast-j sub-j add-result shared-slice-read-result returns-2)

@@ -88,8 +88,8 @@ raise-spec =
     (tie.spec
     Inv-loop
     μ-loop
-    sub-own
     cast-own
+    sub-own
     element-copy-out-counts
     add-counts
     element-write-counts

@@ -15,19 +15,27 @@ full : (c : tie.Start) → Full (st c)
 full c = tested-full (st c) (c .pre .ready .refusal)
 
 home-below : (c : tie.After-slot-of) → c .slot-of .result < 2032
-home-below c = omega (arith, c .slot-of .ensures, slot-room (st (c .before .before .before .before .before)) (c .before .before .before .before .before .args .t5) (c .before .before .before .before .before .args .event) (c .before .before .before .before .before .pre))
+home-below c =
+    let s = c .before .before .before .before .before in
+    omega (arith, c .slot-of .ensures, slot-room (st s) (s .args .t5) (s .args .event) (s .pre))
 
 sub-own : tie.Need-sub-own
-sub-own c = tablet-positive (st (c .before .before .before .before)) (c .before .before .before .before .args .t5) (c .before .before .before .before .args .event) (c .before .before .before .before .pre)
+sub-own c =
+    let s = c .before .before .before .before in
+    tablet-positive (st s) (s .args .t5) (s .args .event) (s .pre)
 
 cast-own : tie.Need-cast-own
 cast-own c = search needs
 
 array-read-count : tie.Need-array-read-count
-array-read-count c = own-fits (st (c .before .before .before .before)) (c .before .before .before .before .args .t5) (c .before .before .before .before .args .event) (c .before .before .before .before .pre)
+array-read-count c =
+    let s = c .before .before .before .before in
+    own-fits (st s) (s .args .t5) (s .args .event) (s .pre)
 
 add-number : tie.Need-add-number
-add-number c = omega (arith, count-room (st (c .before .before .before .before)) (c .before .before .before .before .args .t5) (c .before .before .before .before .args .event) (c .before .before .before .before .pre))
+add-number c =
+    let s = c .before .before .before .before in
+    omega (arith, count-room (st s) (s .args .t5) (s .args .event) (s .pre))
 
 slot-of-requires : tie.Need-slot-of-requires
 slot-of-requires c κs =
@@ -55,13 +63,19 @@ cast-next : tie.Need-cast-next
 cast-next c = search needs
 
 slice-write-order : tie.Need-slice-write-order
-slice-write-order c = omega (arith, event-room (st (c .before .before .before .before .before .before .before .before .before .before .before)) (c .before .before .before .before .before .before .before .before .before .before .before .args .t5) (c .before .before .before .before .before .before .before .before .before .before .before .args .event) (c .before .before .before .before .before .before .before .before .before .before .before .pre), full (c .before .before .before .before .before .before .before .before .before .before .before) .order)
+slice-write-order c =
+    let s = c .before .before .before .before .before .before .before .before .before .before .before in
+    omega (arith, event-room (st s) (s .args .t5) (s .args .event) (s .pre), full s .order)
 
 array-write-counts : tie.Need-array-write-counts
-array-write-counts c = own-fits (st (c .before .before .before .before .before .before .before .before .before .before .before)) (c .before .before .before .before .before .before .before .before .before .before .before .args .t5) (c .before .before .before .before .before .before .before .before .before .before .before .args .event) (c .before .before .before .before .before .before .before .before .before .before .before .pre)
+array-write-counts c =
+    let s = c .before .before .before .before .before .before .before .before .before .before .before in
+    own-fits (st s) (s .args .t5) (s .args .event) (s .pre)
 
 add-events : tie.Need-add-events
-add-events c = omega (arith, event-room (st (c .before .before .before .before .before .before .before .before .before .before .before .before)) (c .before .before .before .before .before .before .before .before .before .before .before .before .args .t5) (c .before .before .before .before .before .before .before .before .before .before .before .before .args .event) (c .before .before .before .before .before .before .before .before .before .before .before .before .pre))
+add-events c =
+    let s = c .before .before .before .before .before .before .before .before .before .before .before .before in
+    omega (arith, event-room (st s) (s .args .t5) (s .args .event) (s .pre))
 
 same-length : tie.Need-same-length
 same-length c = search needs
@@ -74,7 +88,8 @@ same-length-3 c = search needs
 
 returns : tie.Need-returns
 returns c =
-    written (st (c .before .before .before .before .before .before .before .before .before .before .before .before)) (c .before .before .before .before .before .before .before .before .before .before .before .before .args .t5) (c .before .before .before .before .before .before .before .before .before .before .before .before .args .event) (c .before .before .before .before .before .before .before .before .before .before .before .before .pre) (c .before .before .before .before .before .before .before .slot-of .result) (c .before .before .before .before .write-eight .last .0) (c .before .before .before .before .before .before .before .slot-of .ensures) (c .before .before .before .before .write-eight .ensures)
+    let s = c .before .before .before .before .before .before .before .before .before .before .before .before in
+    written (st s) (s .args .t5) (s .args .event) (s .pre) (c .before .before .before .before .before .before .before .slot-of .result) (c .before .before .before .before .write-eight .last .0) (c .before .before .before .before .before .before .before .slot-of .ensures) (c .before .before .before .before .write-eight .ensures)
 
 pub write-event-spec : {M : Type 1} → statement M
 write-event-spec =
