@@ -1,4 +1,4 @@
-// The range that a question is put to, and the one place where an interval's bounds are read.
+// The range that a question is put to, and the interval that is listed: whether it is known, and its bounds.
 use model::Cut;
 use model::Position;
 use model::Range;

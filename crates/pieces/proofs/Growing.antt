@@ -5,7 +5,7 @@ use Prim.Native.Nat.{ℕ, suc, _+_, _≤_, _<_}
 use native.Mathlib.Omega.{arith}
 use native.Mathlib.Numerals.{add-one}
 use lib.ListN.{length, getD, take, set, drop, replicate, length-append, length-replicate}
-use lib.Seq.{sets, take-suc, length-take-le, sets-eq, take-at}
+use lib.Seq.{sets, take-all, take-suc, length-take-le, sets-eq, take-at}
 use Rattle.pieces.specs.declared.Piece.{Piece}
 use Rattle.pieces.specs.Pieces.{pieceRoom, grown, emptyPiece, contents}
 
@@ -31,19 +31,27 @@ pub grown-length : (p : Piece) (xs : List ℕ) → grown p xs .length ≡ p .len
 unfolding grown
 grown-length p xs = refl
 
--- one byte more of those that are put
-pub grown-more : (p : Piece) (text : List ℕ) (i : ℕ) → i < length text → grown (grown p (take i text)) (getD text i 0 ∷ []) ≡ grown p (take (i + 1) text)
-grown-more p text i h =
-    grown-grown p (take i text) (getD text i 0 ∷ [])
-    ∙ ap (grown p) (sym (ap (λ (j : ℕ). take j text) (add-one i) ∙ take-suc text i 0 h))
+-- one byte more of those that are put behind an offset
+pub sets-on : (l vs : List ℕ) (a i : ℕ) → i < length vs → set (sets l a (take i vs)) (a + i) (getD vs i 0) ≡ sets l a (take (i + 1) vs)
+sets-on l vs a i h =
+    let there : a + length (take i vs) ≡ a + i = omega (arith, length-take-le i vs (omega arith)) in
+    ap (λ (j : ℕ). sets (sets l a (take i vs)) j (getD vs i 0 ∷ [])) (sym there)
+    ∙ sets-append l a (take i vs) (getD vs i 0 ∷ [])
+    ∙ ap (sets l a) (sym (ap (λ (j : ℕ). take j vs) (add-one i) ∙ take-suc vs i 0 h))
 
--- one byte more of those that are copied
+-- one byte more of those that are copied to the front
 pub sets-more : (l vs : List ℕ) (i : ℕ) → i < length vs → set (sets l 0 (take i vs)) i (getD vs i 0) ≡ sets l 0 (take (i + 1) vs)
 sets-more l vs i h =
-    let there : 0 + length (take i vs) ≡ i = omega (arith, length-take-le i vs (omega arith)) in
-    ap (λ (j : ℕ). sets (sets l 0 (take i vs)) j (getD vs i 0 ∷ [])) (sym there)
-    ∙ sets-append l 0 (take i vs) (getD vs i 0 ∷ [])
-    ∙ ap (sets l 0) (sym (ap (λ (j : ℕ). take j vs) (add-one i) ∙ take-suc vs i 0 h))
+    let front : 0 + i ≡ i = omega arith in
+    ap (λ (j : ℕ). set (sets l 0 (take i vs)) j (getD vs i 0)) (sym front) ∙ sets-on l vs 0 i h
+
+-- all bytes are put
+pub grown-whole : (p : Piece) (text : List ℕ) (i : ℕ) (bytes : List ℕ) → i ≡ length text → bytes ≡ sets (p .bytes) (p .length) (take i text) → record { length = p .length + i; bytes = bytes } ≡ grown p text
+unfolding grown
+grown-whole p text i bytes all is =
+    let long : p .length + i ≡ p .length + length text = omega arith in
+    let put : bytes ≡ sets (p .bytes) (p .length) text = is ∙ ap (sets (p .bytes) (p .length)) (take-all i text (omega arith)) in
+    λ j. record { length = long j; bytes = put j }
 
 -- a piece that grew from none has the bytes that were put
 pub put-contents : (text : List ℕ) → length text ≤ pieceRoom → contents (grown emptyPiece text) ≡ text

@@ -3,7 +3,7 @@
 ghost use mathlib.Core.Path.{_≡_};
 ghost use mathlib.Core.List.{[], _∷_};
 ghost use Prim.Native.Nat.{_+_, _≤_, _<_};
-ghost use lib.ListN.{length, take};
+ghost use lib.ListN.{length, take, drop};
 ghost use lib.Seq.{sets};
 ghost use Rattle.lines.specs.Numbers.{decimal};
 ghost use Rattle.lines.specs.Lists.{commaList};
@@ -40,29 +40,55 @@ pub fn put_byte(piece: Piece, byte: u8) -> Piece
     }
 }
 
+// The bytes are written where they lie: a piece is copied once for all of them, and not once for each.
 pub fn put_bytes(piece: Piece, text: &[u8]) -> Piece
     requires { ⌜ piece .length + length (now text) ≤ pieceRoom ⌝ }
     ensures { λ r. ⌜ r ≡ grown piece (now (text .entry)) ⌝ }
 {
-    let mut longer = piece;
+    let at = piece.length;
+    let mut bytes = piece.bytes;
     let mut i: usize = 0;
     while i < text.len() {
-        longer = put_byte(longer, text[i]);
+        bytes[at + i] = text[i];
         i += 1;
     }
-    longer
+    Piece {
+        length: at + i,
+        bytes,
+    }
 }
 
-// The last digit goes behind those of the tenth.
+// The digits of a number, at the end of twenty bytes: a number of 64 bits has no more.
+struct Digits {
+    from: usize,
+    bytes: [u8; 20],
+}
+
+// The last digit first, each in front of those that are there.
+fn digits_of(n: u64) -> Digits
+    ensures { λ r. ⌜ (r .from ≤ 20) × (drop (r .from) (r .bytes) ≡ decimal n) ⌝ }
+{
+    let mut bytes = [0u8; 20];
+    let mut from: usize = 20;
+    let mut left = n;
+    while 10 <= left {
+        from -= 1;
+        bytes[from] = b'0' + (left % 10) as u8;
+        left = left / 10;
+    }
+    from -= 1;
+    bytes[from] = b'0' + left as u8;
+    Digits { from, bytes }
+}
+
 pub fn put_number(piece: Piece, n: u64) -> Piece
     requires { ⌜ piece .length + length (decimal n) ≤ pieceRoom ⌝ }
     ensures { λ r. ⌜ r ≡ grown piece (decimal n) ⌝ }
 {
-    if n < 10 {
-        return put_byte(piece, b'0' + n as u8);
-    }
-    let tens = put_number(piece, n / 10);
-    put_byte(tens, b'0' + (n % 10) as u8)
+    let digits = digits_of(n);
+    let from = digits.from;
+    let bytes = digits.bytes;
+    put_bytes(piece, &bytes[from..])
 }
 
 // The first n values, parted by commas.
