@@ -45,14 +45,14 @@ consistent-moves clk other bound G agree c =
       known-in = λ j hj. subst (λ (X : List ℕ). AtMost X G) (known-same clk other bound agree j (at G j) hj (c .most j hj)) (c .known-in j hj);
     }
 
-agree-sym : (clk other : Clocks) (bound : List ℕ) → ClocksAgree clk other bound → ClocksAgree other clk bound
-agree-sym clk other bound agree e c = sym (agree e c)
+clocks-sym : (clk other : Clocks) (bound : List ℕ) → ClocksAgree clk other bound → ClocksAgree other clk bound
+clocks-sym clk other bound agree e c = sym (agree e c)
 
 pub consistent-same : (clk other : Clocks) (bound G : List ℕ) → ClocksAgree clk other bound → consistent clk bound G ≡ consistent other bound G
 consistent-same clk other bound G agree =
     same-test (consistent clk bound G) (consistent other bound G)
     (λ t. holds-consistent other bound G (consistent-moves clk other bound G agree (consistent-holds clk bound G t)))
-    (λ t. holds-consistent clk bound G (consistent-moves other clk bound G (agree-sym clk other bound agree) (consistent-holds other bound G t)))
+    (λ t. holds-consistent clk bound G (consistent-moves other clk bound G (clocks-sym clk other bound agree) (consistent-holds other bound G t)))
 
 pub range-same : (clk other : Clocks) (low high : List ℕ) → ClocksAgree clk other high → cutsBetween clk low high ≡ cutsBetween other low high
 unfolding cutsBetween
@@ -89,6 +89,33 @@ event-same order other q f =
     let own : columnAt order q ≡ columnAt other q = ap (λ (b : ℕ). b - 1) (f q (omega arith)) in
     let count : tally order q (columnAt order q) + 1 ≡ tally other q (columnAt other q) + 1 = ap (λ (k : ℕ). k + 1) (tally-same order other q (λ p h. f p (omega arith)) (columnAt order q) ∙ ap (tally other q) own) in
     λ i. record { column = own i; number = count i }
+
+-- agreeing on the first p events is an equivalence
+pub agree-self : (p : ℕ) (s : Store) → AgreeTo p s s
+agree-self p s = record { tablets = refl; order = λ q h. refl; clocks = λ e c. refl; held = λ e c. refl }
+
+pub agree-tallies : (p : ℕ) (s r : Store) → AgreeTo p s r → tallies (s .order) p ≡ tallies (r .order) p
+agree-tallies p s r agree = tallies-same (s .order) (r .order) p (agree .order)
+
+pub agree-sym : (p : ℕ) (s r : Store) → AgreeTo p s r → AgreeTo p r s
+agree-sym p s r agree =
+    let there : (e : EventName) → Contains (tallies (r .order) p) e → Contains (tallies (s .order) p) e = λ e c. subst (λ (t : List ℕ). Contains t e) (sym (agree-tallies p s r agree)) c in
+    record {
+      tablets = sym (agree .tablets);
+      order = λ q h. sym (agree .order q h);
+      clocks = λ e c. sym (agree .clocks e (there e c));
+      held = λ e c. sym (agree .held e (there e c));
+    }
+
+pub agree-trans : (p : ℕ) (s r t : Store) → AgreeTo p s r → AgreeTo p r t → AgreeTo p s t
+agree-trans p s r t first next =
+    let there : (e : EventName) → Contains (tallies (s .order) p) e → Contains (tallies (r .order) p) e = λ e c. subst (λ (u : List ℕ). Contains u e) (agree-tallies p s r first) c in
+    record {
+      tablets = first .tablets ∙ next .tablets;
+      order = λ q h. first .order q h ∙ next .order q h;
+      clocks = λ e c. first .clocks e c ∙ next .clocks e (there e c);
+      held = λ e c. first .held e c ∙ next .held e (there e c);
+    }
 
 module _ (s r : Store) (snd : Sound s) where
   pub gmin-same : (p : ℕ) → p ≤ s .events → AgreeTo p s r → gmin s p ≡ gmin r p

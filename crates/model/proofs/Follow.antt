@@ -76,7 +76,7 @@ holds-covers clk tal own clock f =
     (λ j h. at-most-covered (known clk j (lastKnown own j (at tal j) (at clock j))) clock (f j h))
 
 -- the groups of refusals, each passed exactly when its conditions hold
-or-else-none : (a b : ℕ) → orElse a b ≡ 0 → (a ≡ 0) × (b ≡ 0)
+pub or-else-none : (a b : ℕ) → orElse a b ≡ 0 → (a ≡ 0) × (b ≡ 0)
 or-else-none zero b e = (refl, e)
 or-else-none (suc a) b e =
     let z : ⊥ = omega (arith, simp (eqb·suc-zero a) at e) in absurd z

@@ -13,6 +13,7 @@ pub mod Happened
 pub mod Slots
 pub mod Total
 pub mod Sound
+pub mod Records
 pub mod Bounds
 pub mod Intervals
 pub mod Partition

@@ -11,7 +11,7 @@ use Rattle.model.specs.declared.Range.the-variants.{Whole}
 use Rattle.model.specs.Lists.{at, eight, allBelow}
 use Rattle.model.specs.Refusals.{orElse}
 use Rattle.model.specs.Follow.{tallies, followRefusal}
-use Rattle.model.specs.Store.{Store, clocksOf, talliesOf, storeRefusal, accepted, eventRefusal}
+use Rattle.model.specs.Store.{Store, storeOf, freshRecord, clocksOf, talliesOf, storeRefusal, accepted, eventRefusal}
 use Rattle.model.specs.Cuts.{consistent, interval, allCuts, total}
 use Rattle.model.specs.Questions.{meets, Witness, answer}
 
@@ -24,8 +24,7 @@ abbrev pub event : ℕ → List ℕ → ℕ → Event
 event tablet clock held = record { tablet = record { 0 = tablet }; clock = wide clock; held = held }
 
 abbrev pub blank : ℕ → Store
-blank n =
-    record { tablets = n; events = 0; clocks = replicate 16256 0; held = replicate 2032 0; order = replicate 2032 0 }
+blank n = storeOf (freshRecord n) (replicate 16256 0) (replicate 2032 0) (replicate 2032 0)
 
 -- the store after some events, none of which is tested here
 abbrev pub afterAll : Store → List Event → Store

@@ -8,6 +8,7 @@ use lib.Seq.{sets}
 use Rattle.model.specs.declared.Record.{Record}
 use Rattle.model.specs.declared.Event.{Event}
 use Rattle.model.specs.Numbers.{tabletsFit, slot, column}
+use Rattle.model.specs.Refusals.{orElse}
 use Rattle.model.specs.Clocks.{Clocks, EventName, clockAt}
 use Rattle.model.specs.Follow.{tally, tallies, followRefusal, followTo}
 
@@ -22,6 +23,18 @@ pub record Store : Type 0 where
 abbrev pub storeOf : Record → List ℕ → List ℕ → List ℕ → Store
 storeOf r clocks held order =
     record { tablets = r .tablets; events = r .events; clocks = clocks; held = held; order = order }
+
+-- the record of a store
+abbrev pub recordOf : Store → Record
+recordOf s = record { tablets = s .tablets; events = s .events }
+
+-- rule 10: a record before its first event, (n, 0)
+abbrev pub freshRecord : ℕ → Record
+freshRecord n = record { tablets = n; events = 0 }
+
+-- rule 51: the record of an opening that is refused, (0, 0)
+abbrev pub noRecord : Record
+noRecord = record { tablets = 0; events = 0 }
 
 abbrev pub clocksOf : Store → Clocks
 clocksOf s = clockAt (s .clocks)
@@ -45,9 +58,13 @@ fullSize s = fullSizes (s .clocks) (s .held) (s .order)
 unfoldable pub valid : Store → Bool
 valid s = leb (s .events) 2032 && followTo (s .tablets) (clocksOf s) (s .order) (s .events)
 
+-- rule 53: what is tested of a record alone, first of all, by every call that opens one or takes a store; 0 where it passes
+unfoldable pub recordRefusal : Record → ℕ
+recordRefusal r = cond (not (tabletsFit (r .tablets))) 1 0
+
 -- "Each call that takes a store tests this, after refusals 1 and 2 and before all else": 0 where it passes
 unfoldable pub storeRefusal : Store → ℕ
-storeRefusal s = cond (not (tabletsFit (s .tablets))) 1 (cond (not (fullSize s)) 2 (cond (not (valid s)) 3 0))
+storeRefusal s = orElse (recordRefusal (recordOf s)) (cond (not (fullSize s)) 2 (cond (not (valid s)) 3 0))
 
 -- "Accepting an event writes its slot's clock and held value and the next order byte, and gives T+1; every other place is
 -- untouched."

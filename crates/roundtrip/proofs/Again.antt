@@ -1,6 +1,6 @@
 -- What is written of a sound store reads back: line by line, event by event.
 use mathlib.Core.Path.{_≡_, refl, sym, ap, _∙_, subst}
-use mathlib.Core.Logic.{by-cases, ⊎-elim}
+use mathlib.Core.Logic.{by-cases}
 use mathlib.Core.Bool.{true, false}
 use mathlib.Core.List.{List, [], _∷_, _++_, append-assoc, append-nil}
 use Prim.Native.Nat.{ℕ, zero, suc, _+_, _-_, _≤_, _<_}
@@ -8,29 +8,23 @@ use native.Mathlib.Omega.{arith}
 use native.Mathlib.Numerals.{add-one}
 use native.Mathlib.Decide.{ℕ-discrete, decLt}
 use lib.ListN.{length, getD, take, drop, length-append, List·getD-eq-default}
-use lib.Seq.{drop-append-seam, getD-set-same, getD-take, length-take-le}
-use Rattle.model.specs.declared.Event.{Event}
+use lib.Seq.{drop-append-seam, getD-take, length-take-le}
 use Rattle.model.specs.Lists.{at, eight}
-use Rattle.model.specs.Numbers.{column}
 use Rattle.model.specs.Clocks.{EventName, clockOf}
-use Rattle.model.specs.Follow.{columnAt, tally, tallies, eventAt, followRefusal}
-use Rattle.model.specs.Store.{Store, storeOf, fullSizes, clocksOf, heldOf, talliesOf, storeRefusal, accepted, eventRefusal}
-use Rattle.model.specs.Cuts.{Contains}
+use Rattle.model.specs.Follow.{tallies, eventAt}
+use Rattle.model.specs.Store.{Store, storeOf, freshRecord, fullSizes, clocksOf, heldOf, storeRefusal, accepted}
 use Rattle.model.specs.Agree.{AgreeTo}
-use Rattle.model.proofs.Tests.{split-below}
 use Rattle.model.proofs.Entries.{at-eight, length-eight, same-entries}
-use Rattle.model.proofs.Follow.{Follows, follows-passes}
-use Rattle.model.proofs.Valid.{at-tallies, new-or-old, follow-prefix}
+use Rattle.model.proofs.Follow.{Follows}
+use Rattle.model.proofs.Valid.{at-tallies, follow-prefix}
 use Rattle.model.proofs.Total.{tally-bounded}
-use Rattle.model.proofs.Slots.{clock-long}
-use Rattle.model.proofs.Sound.{Sound, Full, follows-at, stored-at}
-use Rattle.model.proofs.Agree.{tally-same, tallies-same}
-use Rattle.model.proofs.Accepted.{follows-moves, newName, room-for-one, accepted-agrees, clock-stored, held-stored}
+use Rattle.model.proofs.Sound.{Sound}
 use Rattle.store.specs.Outcomes.{Outcome}
-use Rattle.store.proofs.Verdicts.{some-tablets}
-use Rattle.store.proofs.Ready.{tested-sound, tested-full}
+use Rattle.store.proofs.Verdicts.{some-tablets, record-passes}
+use Rattle.store.proofs.Ready.{tested-sound}
 use Rattle.store.proofs.Outcomes.{append-passed}
-use Rattle.store.proofs.Theorems.{accepted-stays-sound, sound-limits}
+use Rattle.store.proofs.Theorems.{sound-limits}
+use Rattle.store.proofs.Replay.{stored, one-event, nothing-yet, stored-follows, stored-long, may, next-ready, agree-next}
 use Rattle.lines.specs.declared.numbers.Number.the-variants.{Value}
 use Rattle.lines.specs.declared.lists.Listed.{Listed}
 use Rattle.lines.specs.Numbers.{decimal, number}
@@ -38,11 +32,11 @@ use Rattle.lines.specs.Find.{find, firstLine, restLines, startsWith, valueBehin
 use Rattle.lines.specs.Lists.{commaList, moreEntries, listed}
 use Rattle.lines.proofs.Decimals.{number-written}
 use Rattle.lines.proofs.Parts.{through, first-line, rest-lines, line-length, value-keyed, starts-key}
-use Rattle.lines.proofs.Entries.{Small, decimal-lacks, listed-written}
+use Rattle.lines.proofs.Entries.{decimal-lacks, listed-written}
 use Rattle.loglines.specs.declared.events.EventLines.{EventLines}
 use Rattle.loglines.specs.Keys.{numberLine, clockLine, endsHere, tabletsKey, tabletKey, clockKey, heldKey, eventsKey}
 use Rattle.loglines.specs.Events.{lineBytes, eventLines}
-use Rattle.text.specs.Reading.{ReadOutcome, TurnOutcome, turn, readOn, reading, freshRecord}
+use Rattle.text.specs.Reading.{ReadOutcome, TurnOutcome, turn, readOn, reading}
 use Rattle.pieces.specs.Lines.{keyLine, listLine}
 use Rattle.pieces.proofs.Lengths.{small-take}
 use Rattle.writer.specs.Writing.{eventText, textOf}
@@ -127,10 +121,6 @@ listed-take (suc n) (x ∷ xs) some most long h =
     ap (λ (k : ℕ). listed (suc k) (commaList (x ∷ take n xs))) (sym e)
     ∙ listed-written x (take n xs) (omega arith) (small-take (suc n) (x ∷ xs) h)
 
-one-event : (r : Store) (e : Event) → accepted r e .events ≡ r .events + 1
-unfolding accepted
-one-event r e = refl
-
 -- an event of a sound store
 module _ (s : Store) (none : storeRefusal s ≡ 0) (fits : (q : ℕ) → q < s .events → heldOf s (eventAt (s .order) q) ≤ 65535) where
   snd : Sound s
@@ -138,14 +128,6 @@ module _ (s : Store) (none : storeRefusal s ≡ 0) (fits : (q : ℕ) → q < s .
 
   abbrev n : ℕ
   n = s .tablets
-
-  abbrev stored : ℕ → Event
-  stored q =
-      record {
-        tablet = record { 0 = getD (s .order) q 0 };
-        clock = clockOf (clocksOf s) (eventAt (s .order) q);
-        held = heldOf s (eventAt (s .order) q);
-      }
 
   module _ (q : ℕ) (inside : q < s .events) where
     abbrev name : EventName
@@ -155,10 +137,10 @@ module _ (s : Store) (none : storeRefusal s ≡ 0) (fits : (q : ℕ) → q < s .
     clock = clockOf (clocksOf s) name
 
     follows : Follows n (clocksOf s) (tallies (s .order) q) (getD (s .order) q 0) clock
-    follows = follows-at s snd q inside
+    follows = stored-follows s none q inside
 
-    pub stored-long : length clock ≡ 8
-    stored-long = clock-long (s .clocks) name (tested-full s none .clocks) (stored-at s snd q inside)
+    long : length clock ≡ 8
+    long = stored-long s none q inside
 
     own-low : getD (s .order) q 0 - 1 < n
     own-low = omega (arith, follows .positive, follows .listed)
@@ -171,17 +153,17 @@ module _ (s : Store) (none : storeRefusal s ≡ 0) (fits : (q : ℕ) → q < s .
 
     all-entries : eight (at (take n clock)) ≡ clock
     all-entries =
-        same-entries (eight (at (take n clock))) clock (length-eight (at (take n clock))) stored-long
+        same-entries (eight (at (take n clock))) clock (length-eight (at (take n clock))) long
         (λ i h. at-eight (at (take n clock)) i h
         ∙ by-cases (decLt i n) (λ low. getD-take n clock i 0 low)
-        (λ high. List·getD-eq-default (take n clock) 0 (omega (arith, length-take-le n clock (omega (arith, stored-long, snd .narrow))))
+        (λ high. List·getD-eq-default (take n clock) 0 (omega (arith, length-take-le n clock (omega (arith, long, snd .narrow))))
         ∙ sym (follows .above i h (omega (arith, own-low)) (omega arith))))
 
     -- the bytes before the last of its lines
     abbrev before-held : ℕ
     before-held = length (keyLine tabletKey (getD (s .order) q 0)) + length (listLine clockKey (take n clock))
 
-    pub event-read : (rest : List ℕ) → eventLines n (eventText s q ++ rest) ≡ record { fault = 0; before = before-held; used = length (eventText s q); event = stored q }
+    pub event-read : (rest : List ℕ) → eventLines n (eventText s q ++ rest) ≡ record { fault = 0; before = before-held; used = length (eventText s q); event = stored s q }
     unfolding eventText
     event-read rest =
         let one = keyLine tabletKey (getD (s .order) q 0) in
@@ -191,7 +173,7 @@ module _ (s : Store) (none : storeRefusal s ≡ 0) (fits : (q : ℕ) → q < s .
         let text = one ++ (two ++ (three ++ rest)) in
         let second : restLines text ≡ two ++ (three ++ rest) = number-rest tabletKey refl (getD (s .order) q 0) (two ++ (three ++ rest)) in
         let third : restLines (restLines text) ≡ three ++ rest = ap restLines second ∙ clock-rest (take n clock) (three ++ rest) in
-        let entries : clockLine n (restLines text) ≡ record { fits = true; values = eight (at (take n clock)) } = ap (clockLine n) second ∙ clock-read (take n clock) (three ++ rest) n ∙ listed-take n clock (snd .some) (snd .narrow) (omega (arith, stored-long, snd .narrow)) (λ i h. entry-low i (omega (arith, snd .narrow))) in
+        let entries : clockLine n (restLines text) ≡ record { fits = true; values = eight (at (take n clock)) } = ap (clockLine n) second ∙ clock-read (take n clock) (three ++ rest) n ∙ listed-take n clock (snd .some) (snd .narrow) (omega (arith, long, snd .narrow)) (λ i h. entry-low i (omega (arith, snd .narrow))) in
         let said = event-said n text (getD (s .order) q 0) (heldOf s name)
         (number-read tabletKey refl (getD (s .order) q 0) (two ++ (three ++ rest)) 255 (omega (arith, follows .listed, snd .narrow)))
         (ap (λ (l : Listed). l .fits) entries)
@@ -214,78 +196,12 @@ module _ (s : Store) (none : storeRefusal s ≡ 0) (fits : (q : ℕ) → q < s .
 
   -- the same offered to a store that agrees so far
   module _ (q : ℕ) (inside : q < s .events) (r : Store) (ready : storeRefusal r ≡ 0) (at-q : r .events ≡ q) (agree : AgreeTo q s r) where
-    abbrev event : Event
-    event = stored q
-
-    same-tallies : tallies (s .order) q ≡ talliesOf r
-    same-tallies = tallies-same (s .order) (r .order) q (agree .order) ∙ ap (tallies (r .order)) (sym at-q)
-
-    pub may : eventRefusal r event ≡ 0
-    unfolding eventRefusal
-    may =
-        subst (λ (k : ℕ). followRefusal k (clocksOf r) (talliesOf r) (getD (s .order) q 0) (event .clock) ≡ 0) (agree .tablets)
-        (follows-passes n (clocksOf r) (talliesOf r) (getD (s .order) q 0) (event .clock)
-        (subst (λ (t : List ℕ). Follows n (clocksOf r) t (getD (s .order) q 0) (event .clock)) same-tallies
-        (follows-moves n (clocksOf s) (clocksOf r) (tallies (s .order) q) (getD (s .order) q 0) (event .clock) (agree .clocks) (follows q inside))))
-
-    pub turn-is : (rest : List ℕ) → turn r (eventText s q ++ rest) ≡ record { refusal = 0; line = 2; used = length (eventText s q); store = accepted r event }
+    pub turn-is : (rest : List ℕ) → turn r (eventText s q ++ rest) ≡ record { refusal = 0; line = 2; used = length (eventText s q); store = accepted r (stored s q) }
     turn-is rest =
-        let e : EventLines = record { fault = 0; before = before-held q inside; used = length (eventText s q); event = event } in
+        let e : EventLines = record { fault = 0; before = before-held q inside; used = length (eventText s q); event = stored s q } in
         let said : e ≡ eventLines (r .tablets) (eventText s q ++ rest) = sym (event-read q inside rest) ∙ ap (λ (k : ℕ). eventLines k (eventText s q ++ rest)) (agree .tablets) in
         turn-offered r (eventText s q ++ rest) e said refl
-        ∙ ap (λ (o : Outcome). record { refusal = o .refusal; line = 2; used = length (eventText s q); store = o .store }) (append-passed r event may)
-
-    long : length (event .clock) ≡ 8
-    long = stored-long q inside
-
-    abbrev next : Store
-    next = accepted r event
-
-    pub next-ready : storeRefusal next ≡ 0
-    next-ready = accepted-stays-sound r event long ready may
-
-    rsnd : Sound r
-    rsnd = tested-sound r ready
-
-    rfull : Full r
-    rfull = tested-full r ready
-
-    kept : AgreeTo (r .events) r next
-    kept = accepted-agrees r rsnd rfull event long may
-
-    byte : getD (next .order) q 0 ≡ getD (s .order) q 0
-    unfolding accepted
-    byte =
-        ap (λ (k : ℕ). getD (next .order) k 0) (sym at-q)
-        ∙ getD-set-same (r .order) (r .events) (getD (s .order) q 0) 0 (omega (arith, room-for-one r rsnd rfull event long may, rfull .order))
-
-    -- the event that is new has its name in both
-    named : (x : EventName) → x .column ≡ columnAt (s .order) q → x .number ≡ eventAt (s .order) q .number → x ≡ newName r rsnd rfull event long may
-    named x col num =
-        let own = columnAt (s .order) q in
-        let count : eventAt (s .order) q .number ≡ tally (r .order) (r .events) own + 1 = ap (λ (k : ℕ). k + 1) (tally-same (s .order) (r .order) q (agree .order) own ∙ ap (λ (k : ℕ). tally (r .order) k own) (sym at-q)) in
-        λ i. record { column = col i; number = (num ∙ count) i }
-
-    in-both : (x : EventName) → x .column ≡ columnAt (s .order) q → x .number ≡ eventAt (s .order) q .number → x ≡ eventAt (s .order) q
-    in-both x col num = λ i. record { column = col i; number = num i }
-
-    older : (x : EventName) → Contains (tallies (s .order) q) x → Contains (tallies (r .order) (r .events)) x
-    older x c = subst (λ (t : List ℕ). Contains t x) same-tallies c
-
-    pub agree-next : AgreeTo (suc q) s next
-    agree-next =
-        record {
-          tablets = agree .tablets ∙ kept .tablets;
-          order = split-below {P = λ p. getD (s .order) p 0 ≡ getD (next .order) p 0} q (λ p h. agree .order p h ∙ kept .order p (omega arith)) (sym byte);
-          clocks = λ x c. ⊎-elim
-              (λ old. agree .clocks x old ∙ kept .clocks x (older x old))
-              (λ new. ap (clockOf (clocksOf s)) (in-both x (new .0) (new .1)) ∙ sym (ap (clockOf (clocksOf next)) (named x (new .0) (new .1)) ∙ clock-stored r rsnd rfull event long may))
-              (new-or-old (s .order) q (follows q inside .positive) x c);
-          held = λ x c. ⊎-elim
-              (λ old. agree .held x old ∙ kept .held x (older x old))
-              (λ new. ap (heldOf s) (in-both x (new .0) (new .1)) ∙ sym (ap (heldOf next) (named x (new .0) (new .1)) ∙ held-stored r rsnd rfull event long may))
-              (new-or-old (s .order) q (follows q inside .positive) x c);
-        }
+        ∙ ap (λ (o : Outcome). record { refusal = o .refusal; line = 2; used = length (eventText s q); store = o .store }) (append-passed r (stored s q) (may s none q inside r ready at-q agree))
 
   -- the text from a position on
   record ReadsTo (o : ReadOutcome) : Type 0 where
@@ -316,34 +232,25 @@ module _ (s : Store) (none : storeRefusal s ≡ 0) (fits : (q : ℕ) → q < s .
       let text = eventText s q ++ rest in
       let is = turn-is q inside r ready at-q agree rest in
       let few = sound-limits r ready .0 in
-      let more = ap (λ (t : TurnOutcome). t .store .events) is ∙ one-event r (stored q) in
+      let more = ap (λ (t : TurnOutcome). t .store .events) is ∙ one-event r (stored s q) in
       let e = step-on r line text few (event-goes-on q inside rest) (ap (λ (t : TurnOutcome). t .refusal) is) more
       ∙ ap (λ (t : TurnOutcome). readOn (t .store) (line + 3) (drop (t .used) text)) is
-      ∙ ap (readOn (accepted r (stored q)) (line + 3)) (drop-append-seam (eventText s q) rest) in
+      ∙ ap (readOn (accepted r (stored s q)) (line + 3)) (drop-append-seam (eventText s q) rest) in
       subst ReadsTo (sym e)
-      (reads-from left (suc q) (accepted r (stored q)) (line + 3) (omega arith) (next-ready q inside r ready at-q agree) (one-event r (stored q) ∙ ap (λ (k : ℕ). k + 1) at-q ∙ add-one q) (agree-next q inside r ready at-q agree))
-
-  nothing-yet : (r : Store) → s .tablets ≡ r .tablets → AgreeTo 0 s r
-  nothing-yet r e =
-      record {
-        tablets = e;
-        order = λ q h. let no : ⊥ = omega arith in absurd no;
-        clocks = λ x c. let no : ⊥ = omega (arith, c .first, c .last, at-tallies (s .order) 0 (x .column) (c .column)) in absurd no;
-        held = λ x c. let no : ⊥ = omega (arith, c .first, c .last, at-tallies (s .order) 0 (x .column) (c .column)) in absurd no;
-      }
+      (reads-from left (suc q) (accepted r (stored s q)) (line + 3) (omega arith) (next-ready s none q inside r ready at-q agree) (one-event r (stored s q) ∙ ap (λ (k : ℕ). k + 1) at-q ∙ add-one q) (agree-next s none q inside r ready at-q agree))
 
   module _ (clocks held order : List ℕ) (full : fullSizes clocks held order ≡ true) where
     written-reads : ReadsTo (reading (textOf s) clocks held order)
     written-reads =
         let fresh = storeOf (freshRecord n) clocks held order in
-        let width = some-tablets n (snd .some) (snd .narrow) in
+        let width = record-passes (freshRecord n) (some-tablets n (snd .some) (snd .narrow)) in
         let rest = piecesFrom s (s .events) 0 in
         let whole = text-from s in
         let is : numberLine tabletsKey 255 (textOf s) ≡ Value n = ap (numberLine tabletsKey 255) whole ∙ number-read tabletsKey refl n rest 255 (omega (arith, snd .narrow)) in
         let after : restLines (textOf s) ≡ rest = ap restLines whole ∙ number-rest tabletsKey refl n rest in
         let e = reading-goes (textOf s) clocks held order full n is width ∙ ap (readOn fresh 2) after in
         subst ReadsTo (sym e)
-        (reads-from (s .events) 0 fresh 2 (omega arith) (fresh-store clocks held order n width full .refusal) refl (nothing-yet fresh refl))
+        (reads-from (s .events) 0 fresh 2 (omega arith) (fresh-store clocks held order n width full .refusal) refl (nothing-yet s fresh refl))
 
     pub written-again : (reading (textOf s) clocks held order .refusal ≡ 0) × (reading (textOf s) clocks held order .store .events ≡ s .events) × AgreeTo (s .events) s (reading (textOf s) clocks held order .store)
     written-again = (written-reads .passed, written-reads .events, written-reads .agree)

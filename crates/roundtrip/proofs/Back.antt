@@ -1,27 +1,26 @@
 -- The way back: a line that was read is the line that would be written, and so is the whole text.
 use mathlib.Core.Path.{_≡_, refl, sym, ap, ap₂, _∙_, subst}
-use mathlib.Core.Logic.{_≢_}
+use mathlib.Core.Logic.{_≢_, by-cases}
 use mathlib.Core.Bool.{Bool, true, false, cond}
 use mathlib.Core.List.{List, [], _∷_, _++_, append-assoc, append-nil}
 use Prim.Native.Nat.{ℕ, zero, suc, _+_, _-_, _≤_, _<_}
 use native.Mathlib.Omega.{arith}
 use native.Mathlib.Numerals.{add-one}
-use native.Mathlib.Decide.{ℕ-discrete, decLt}
+use native.Mathlib.Decide.{ℕ-discrete, decLe, decLt}
 use borrow.Author.Tests.{eqb-true, eqb-false}
 use lib.Dec.{eqb}
 use lib.ListN.{length, getD, take, drop, drop-of-length-le}
 use lib.Seq.{drop-drop, getD-set-same, ext-getD, length-take-le, getD-take}
 use Rattle.model.specs.declared.Event.{Event}
 use Rattle.model.specs.Lists.{at, eight}
-use Rattle.model.specs.Numbers.{tabletsFit}
 use Rattle.model.specs.Clocks.{clockOf}
 use Rattle.model.specs.Follow.{tallies, eventAt}
-use Rattle.model.specs.Store.{Store, storeOf, fullSizes, clocksOf, heldOf, storeRefusal, accepted, eventRefusal}
+use Rattle.model.specs.Store.{Store, storeOf, freshRecord, fullSizes, clocksOf, heldOf, recordRefusal, storeRefusal, accepted, eventRefusal}
 use Rattle.model.specs.Cuts.{Contains}
 use Rattle.model.specs.Agree.{AgreeTo}
 use Rattle.model.proofs.Entries.{at-eight, length-eight}
 use Rattle.model.proofs.Sound.{event-contained}
-use Rattle.model.proofs.Agree.{event-same}
+use Rattle.model.proofs.Agree.{event-same, agree-self}
 use Rattle.model.proofs.Accepted.{room-for-one, accepted-agrees, event-written, clock-stored, held-stored, still-contained}
 use Rattle.store.proofs.Ready.{tested-sound, tested-full}
 use Rattle.store.proofs.Theorems.{accepted-stays-sound}
@@ -36,12 +35,12 @@ use Rattle.lines.proofs.Entries.{listed-back, back-filled}
 use Rattle.loglines.specs.declared.events.EventLines.{EventLines}
 use Rattle.loglines.specs.Keys.{numberLine, clockLine, endsHere, tabletsKey, tabletKey, clockKey, heldKey, eventsKey}
 use Rattle.loglines.specs.Events.{lineBytes, eventLines}
-use Rattle.text.specs.Reading.{ReadOutcome, refused, ending, turn, readFrom, readOn, reading, freshRecord}
+use Rattle.text.specs.Reading.{ReadOutcome, refused, ending, turn, readFrom, readOn, reading}
 use Rattle.pieces.specs.Lines.{keyLine, listLine}
 use Rattle.writer.specs.Writing.{eventText, piecesTo, textOf}
 use Rattle.loglines.proofs.Lines.{number-filled}
 use Rattle.text.proofs.Turns.{EventBack, event-back, TurnPassed, turn-passed, ending-fault, ending-other, ending-more, ending-done}
-use Rattle.text.proofs.Opening.{fresh-store, reading-short, reading-faulty, reading-width, reading-goes}
+use Rattle.text.proofs.Opening.{fresh-store, reading-short, reading-faulty, reading-refused, reading-goes}
 use Rattle.writer.proofs.Pieces.{piece-first, piece-event, piece-last}
 
 -- lines, with what follows them
@@ -219,9 +218,6 @@ pub record ReadBack (r : Store) (text : List ℕ) (f : Store) : Type 0 where
   pub total : r .events + left ≡ f .events
   pub bytes : text ≡ piecesFrom f left (r .events)
 
-agree-self : (s : Store) (p : ℕ) → AgreeTo p s s
-agree-self s p = record { tablets = refl; order = λ q h. refl; clocks = λ e c. refl; held = λ e c. refl }
-
 -- one event before what was read already
 module _ (r : Store) (none : storeRefusal r ≡ 0) (text : List ℕ) (p : TurnPassed r text) where
   abbrev n : ℕ
@@ -293,7 +289,7 @@ read-back-from (suc turns) r line text none passed =
     by-line true passes t z again =
         let b = ending-back r line text z in
         subst (ReadBack r text) (sym (b .0))
-        (record { sound = none; agree = agree-self r (r .events); left = 0; total = omega arith; bytes = b .1 })
+        (record { sound = none; agree = agree-self (r .events) r; left = 0; total = omega arith; bytes = b .1 })
     by-line false true t z again =
         let p = turn-passed r text (eqb-true (turn r text .refusal) 0 t) in
         event-before r none text p _
@@ -320,18 +316,20 @@ module _ (text clocks held order : List ℕ) (passed : reading text clocks held 
             ∙ sym (number-line-back tabletsKey 255 text n is),
       )
 
-  by-width : (n : ℕ) → numberLine tabletsKey 255 text ≡ Value n → fullSizes clocks held order ≡ true → (b : Bool) → tabletsFit n ≡ b → (storeRefusal f ≡ 0) × (textOf f ≡ text)
+  by-record : (n : ℕ) → numberLine tabletsKey 255 text ≡ Value n → fullSizes clocks held order ≡ true → (storeRefusal f ≡ 0) × (textOf f ≡ text)
   unfolding readOn
-  by-width n is full true fits =
+  by-record n is full =
+      by-cases (decLe 1 (recordRefusal (freshRecord n)))
+      (λ some. absurd (not-refused (recordRefusal (freshRecord n)) 1 _ some (reading-refused text clocks held order full n is some)))
+      (λ none. let fits : recordRefusal (freshRecord n) ≡ 0 = omega arith in
       let e = reading-goes text clocks held order full n is fits in
       let z = sym (ap (λ (o : ReadOutcome). o .refusal) e) ∙ passed in
       subst (λ (o : ReadOutcome). (storeRefusal (o .store) ≡ 0) × (textOf (o .store) ≡ text)) (sym e)
       (by-fresh n is (readOn (storeOf (freshRecord n) clocks held order) 2 (restLines text)) z
-      (read-back-from (2033 - 0) (storeOf (freshRecord n) clocks held order) 2 (restLines text) (fresh-store clocks held order n fits full .refusal) z))
-  by-width n is full false fits = absurd (not-refused 1 1 _ (omega arith) (reading-width text clocks held order full n is fits))
+      (read-back-from (2033 - 0) (storeOf (freshRecord n) clocks held order) 2 (restLines text) (fresh-store clocks held order n fits full .refusal) z)))
 
   by-tablets : (x : Number) → numberLine tabletsKey 255 text ≡ x → fullSizes clocks held order ≡ true → (storeRefusal f ≡ 0) × (textOf f ≡ text)
-  by-tablets (Value n) is full = by-width n is full (tabletsFit n) refl
+  by-tablets (Value n) is full = by-record n is full
   by-tablets Faulty is full = absurd (not-refused 12 1 _ (omega arith) (reading-faulty text clocks held order full is))
 
   by-sizes : (b : Bool) → fullSizes clocks held order ≡ b → (storeRefusal f ≡ 0) × (textOf f ≡ text)

@@ -4,7 +4,7 @@ use Rattle.model.specs.Lists.{eight, zeros}
 use Rattle.model.specs.Numbers.{slot}
 use Rattle.model.specs.Clocks.{clockIn, covered}
 use Rattle.model.specs.Follow.{tallies, tabletRefusal, othersWithin, covers, clockRefusal, followRefusal}
-use Rattle.model.specs.Store.{accepted, eventRefusal}
+use Rattle.model.specs.Store.{recordRefusal, accepted, eventRefusal}
 use Rattle.model.specs.Cases.{passed}
 use Rattle.lines.specs.Numbers.{decimal, plain, digitsFrom, number}
 use Rattle.lines.specs.Find.{lineLength, valueBehind}
@@ -17,5 +17,5 @@ use Rattle.writer.specs.Writing.{eventText, pieceText, textOf}
 use Rattle.roundtrip.specs.Cases.{table}
 
 pub texts-as-written : T (passed table)
-unfolding eight zeros slot clockIn covered tallies tabletRefusal othersWithin covers clockRefusal followRefusal accepted eventRefusal decimal plain digitsFrom number lineLength valueBehind notListed listed numberLine clockLine endsHere heldPart clockPart eventLines ending turn readOn beginning reading keyLine listLine eventText pieceText textOf
+unfolding eight zeros slot clockIn covered tallies tabletRefusal othersWithin covers clockRefusal followRefusal recordRefusal accepted eventRefusal decimal plain digitsFrom number lineLength valueBehind notListed listed numberLine clockLine endsHere heldPart clockPart eventLines ending turn readOn beginning reading keyLine listLine eventText pieceText textOf
 texts-as-written = tt

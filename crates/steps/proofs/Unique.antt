@@ -6,7 +6,7 @@ use Prim.Native.Nat.{ℕ, _+_}
 use Rattle.model.specs.declared.Cut.{Cut}
 use Rattle.model.specs.declared.Position.{Position}
 use Rattle.model.specs.Clocks.{clockAt, covered}
-use Rattle.model.specs.Store.{Store}
+use Rattle.model.specs.Store.{Store, storeOf, noRecord}
 use Rattle.model.specs.Follow.{tallies}
 use Rattle.model.specs.Cuts.{consistent}
 use Rattle.model.specs.Step.{step}
@@ -37,7 +37,7 @@ interval-span-unique clocks order position a b f g =
     span-unique a b (f .low-is some refl refl ∙ sym (g .low-is some refl refl)) (f .high-is ∙ sym (g .high-is))
   where
     some : Store
-    some = record { tablets = 0; events = 0; clocks = clocks; held = []; order = order }
+    some = storeOf noRecord clocks [] order
 
 pub trace-span-unique : (order : List ℕ) (events : ℕ) (a b : Span) → TraceSpan order events (a .low .counts) (a .high .counts) → TraceSpan order events (b .low .counts) (b .high .counts) → a ≡ b
 trace-span-unique order events a b f g = span-unique a b (f .low-is ∙ sym (g .low-is)) (f .high-is ∙ sym (g .high-is))

@@ -1,14 +1,14 @@
 -- One turn of the store test: the tallies of the next position, and what a verdict on the event there says of the trace.
-use mathlib.Core.Path.{_≡_, sym, ap, ap₂, _∙_, subst}
+use mathlib.Core.Path.{_≡_, sym, ap, _∙_, subst}
 use mathlib.Core.Logic.{_≢_, by-cases}
-use mathlib.Core.Bool.{Bool, false, _&&_}
+use mathlib.Core.Bool.{false}
 use mathlib.Core.List.{List}
 use Prim.Native.Nat.{ℕ, suc, _+_, _-_, _≤_, _<_}
 use native.Mathlib.Omega.{arith}
 use native.Mathlib.Numerals.{add-one}
 use native.Mathlib.Decide.{ℕ-discrete, decLe}
-use borrow.Author.Tests.{ne-eqb, lt-ltb, le-leb}
-use lib.Dec.{T, leb, eqb→eq}
+use borrow.Author.Tests.{ne-eqb, lt-ltb}
+use lib.Dec.{T, eqb→eq}
 use lib.ListN.{getD, set, length-set}
 use lib.Seq.{getD-set-same, getD-set-other}
 use Rattle.model.specs.Lists.{at}
@@ -55,7 +55,3 @@ module _ (n : ℕ) (narrow : n ≤ 8) (clk : Clocks) (order : List ℕ) (p : ℕ
       fails (followTo n clk order events)
       (λ t. let here : followRefusal n clk (tallies order p) tablet (clockOf clk (eventAt order p)) ≡ 0 = eqb→eq _ 0 (and-right (followTo n clk order p) _ (follow-prefix n clk order (suc p) events h t)) in
       omega arith)
-
--- three sizes tested one after the other
-pub two-fit : (a b c : ℕ) → 16256 ≤ a → 2032 ≤ b → (leb 16256 a && leb 2032 b && leb 2032 c) ≡ leb 2032 c
-two-fit a b c ha hb = ap₂ (λ (x y : Bool). x && y && leb 2032 c) (le-leb 16256 a ha) (le-leb 2032 b hb)

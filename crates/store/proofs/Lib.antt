@@ -6,3 +6,4 @@ pub mod Ready
 pub mod Outcomes
 pub mod Unique
 pub mod Theorems
+pub mod Replay

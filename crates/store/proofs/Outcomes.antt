@@ -1,5 +1,5 @@
 -- The two ways an event offered to a sound store can go, and the two ways of any store.
-use mathlib.Core.Path.{_≡_, sym, ap, _∙_}
+use mathlib.Core.Path.{_≡_, sym, ap, ap₂, _∙_}
 use mathlib.Core.Logic.{_≢_}
 use mathlib.Core.Bool.{Bool, cond}
 use mathlib.Core.List.{List}
@@ -8,8 +8,9 @@ use native.Mathlib.Omega.{arith}
 use borrow.Author.Tests.{eq-eqb, ne-eqb}
 use lib.Dec.{eqb}
 use Rattle.model.specs.declared.Event.{Event}
-use Rattle.model.specs.Store.{Store, talliesOf, storeRefusal, eventRefusal, accepted}
-use Rattle.store.specs.Outcomes.{Outcome, appending, accepting, AppendReady, AppendedTo, Stored}
+use Rattle.model.specs.declared.Record.{Record}
+use Rattle.model.specs.Store.{Store, freshRecord, noRecord, talliesOf, recordRefusal, storeRefusal, eventRefusal, accepted}
+use Rattle.store.specs.Outcomes.{Opened, opening, Outcome, appending, accepting, AppendReady, AppendedTo, Stored}
 
 -- a choice by whether a number is 0
 pub when-zero : {A : Type 0} (n : ℕ) (x y : A) → n ≡ 0 → cond (eqb n 0) x y ≡ x
@@ -19,6 +20,16 @@ pub when-some : {A : Type 0} (n : ℕ) (x y : A) → 1 ≤ n → cond (eqb n 0) 
 when-some n x y h =
     let some : n ≢ 0 = omega arith in
     ap (λ (b : Bool). cond b x y) (ne-eqb n 0 some)
+
+-- the two ways of an opening
+module _ (n number : ℕ) (r : Record) (told : number ≡ recordRefusal (freshRecord n)) where
+  pub open-passed : r ≡ freshRecord n → recordRefusal (freshRecord n) ≡ 0 → record { refusal = number; returned = r } ≡ opening n
+  open-passed is none =
+      ap₂ {C = Opened} (λ (k : ℕ) (q : Record). record { refusal = k; returned = q }) told (is ∙ sym (when-zero (recordRefusal (freshRecord n)) (freshRecord n) noRecord none))
+
+  pub open-refused : r ≡ noRecord → 1 ≤ recordRefusal (freshRecord n) → record { refusal = number; returned = r } ≡ opening n
+  open-refused is some =
+      ap₂ {C = Opened} (λ (k : ℕ) (q : Record). record { refusal = k; returned = q }) told (is ∙ sym (when-some (recordRefusal (freshRecord n)) (freshRecord n) noRecord some))
 
 module _ (s : Store) (e : Event) where
   pub append-passed : eventRefusal s e ≡ 0 → appending s e ≡ record { refusal = 0; store = accepted s e }

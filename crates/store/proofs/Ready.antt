@@ -12,9 +12,9 @@ use Rattle.model.specs.declared.Event.{Event}
 use Rattle.model.specs.Lists.{at}
 use Rattle.model.specs.Numbers.{tabletsFit, slot, column}
 use Rattle.model.specs.Follow.{tally, tallies}
-use Rattle.model.specs.Store.{Store, clocksOf, talliesOf, fullSize, valid, storeRefusal, accepted, eventRefusal}
+use Rattle.model.specs.Store.{Store, recordOf, clocksOf, talliesOf, fullSize, valid, recordRefusal, storeRefusal, accepted, eventRefusal}
 use Rattle.model.proofs.Tests.{from-true}
-use Rattle.model.proofs.Follow.{Follows, may-follow, passes}
+use Rattle.model.proofs.Follow.{Follows, may-follow, passes, or-else-none}
 use Rattle.model.proofs.Causal.{event}
 use Rattle.model.proofs.Valid.{at-tallies}
 use Rattle.model.proofs.Total.{tally-bounded, room-left}
@@ -23,16 +23,17 @@ use Rattle.model.proofs.Sound.{Sound, sound, Full, full-sizes}
 use Rattle.model.proofs.Agree.{tallies-same}
 use Rattle.store.specs.Outcomes.{WriteReady, Stored}
 use Rattle.store.proofs.Laws.{tallies-raised}
+use Rattle.store.proofs.Verdicts.{record-fits}
 
 -- a store that no test refuses is sound and of full size
 module _ (s : Store) (none : storeRefusal s ≡ 0) where
   links : (tabletsFit (s .tablets) ≡ true) × (fullSize s ≡ true) × (valid s ≡ true)
   unfolding storeRefusal
   links =
-      let p1 = passes (not (tabletsFit (s .tablets))) 1 _ (omega arith) none in
-      let p2 = passes (not (fullSize s)) 2 _ (omega arith) (p1 .1) in
+      let groups = or-else-none (recordRefusal (recordOf s)) _ none in
+      let p2 = passes (not (fullSize s)) 2 _ (omega arith) (groups .1) in
       let p3 = passes (not (valid s)) 3 0 (omega arith) (p2 .1) in
-      (not-false (tabletsFit (s .tablets)) (p1 .0), not-false (fullSize s) (p2 .0), not-false (valid s) (p3 .0))
+      (record-fits (recordOf s) (groups .0), not-false (fullSize s) (p2 .0), not-false (valid s) (p3 .0))
 
   pub tested-sound : Sound s
   tested-sound = sound s (from-true (tabletsFit (s .tablets)) (links .0)) (from-true (valid s) (links .2))

@@ -9,18 +9,18 @@ use native.Mathlib.Decide.{decLe}
 use lib.ListN.{length}
 use Rattle.model.specs.declared.Event.{Event}
 use Rattle.model.specs.Lists.{at}
-use Rattle.model.specs.Store.{Store, talliesOf, fullSize, valid, storeRefusal, accepted, eventRefusal}
+use Rattle.model.specs.Store.{Store, recordOf, talliesOf, fullSize, valid, storeRefusal, accepted, eventRefusal}
 use Rattle.model.proofs.Tests.{holds}
 use Rattle.model.proofs.Sound.{Sound, sound-valid, Full, sizes-full}
 use Rattle.model.proofs.Accepted.{accepted-sound, accepted-full}
 use Rattle.store.specs.Outcomes.{Outcome, appending, accepting, AppendReady, AppendedTo}
-use Rattle.store.proofs.Verdicts.{some-tablets, by-valid}
+use Rattle.store.proofs.Verdicts.{some-tablets, record-passes, by-valid}
 use Rattle.store.proofs.Ready.{tested-sound, tested-full, tested-bounded}
 use Rattle.store.proofs.Outcomes.{append-passed, append-refused, when-zero, when-some}
 
 sound-passes : (s : Store) → Sound s → Full s → storeRefusal s ≡ 0
 sound-passes s snd full =
-    by-valid s (some-tablets (s .tablets) (snd .some) (snd .narrow)) (holds (fullSize s) (sizes-full s full))
+    by-valid s (record-passes (recordOf s) (some-tablets (s .tablets) (snd .some) (snd .narrow))) (holds (fullSize s) (sizes-full s full))
     ∙ ap (λ (v : Bool). cond (not v) 3 0) (holds (valid s) (sound-valid s snd))
 
 -- a sound store has T at most 2,032 and no tally above 254

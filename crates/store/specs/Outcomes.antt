@@ -5,25 +5,24 @@ use mathlib.Core.Bool.{cond}
 use mathlib.Core.List.{List}
 use lib.Dec.{eqb}
 use Rattle.model.specs.declared.Event.{Event}
-use Rattle.model.specs.Numbers.{tabletsFit}
+use Rattle.model.specs.declared.Record.{Record}
 use Rattle.model.specs.Refusals.{verdictNumber}
-use Rattle.model.specs.Store.{Store, storeOf, talliesOf, storeRefusal, eventRefusal, accepted}
+use Rattle.model.specs.Store.{Store, storeOf, freshRecord, noRecord, talliesOf, recordRefusal, storeRefusal, eventRefusal, accepted}
 use Rattle.store.specs.declared.Taken.{Taken}
 use Rattle.store.specs.declared.inner.Appended.{Appended}
 
 -- the refusal's number, 0 for none, with the record that is returned
 pub record Opened : Type 0 where
   pub refusal : ℕ
-  pub tablets : ℕ
-  pub events : ℕ
+  pub returned : Record
 
 abbrev pub opened : Taken → Opened
-opened t = record { refusal = verdictNumber (t .verdict); tablets = t .record .tablets; events = t .record .events }
+opened t = record { refusal = verdictNumber (t .verdict); returned = t .record }
 
 -- "Opening answers (n, 0)"; "the record comes back as given, for opening .. as (0, 0)"
 abbrev pub opening : ℕ → Opened
 opening n =
-    cond (tabletsFit n) (record { refusal = 0; tablets = n; events = 0 }) (record { refusal = 1; tablets = 0; events = 0 })
+    record { refusal = recordRefusal (freshRecord n); returned = cond (eqb (recordRefusal (freshRecord n)) 0) (freshRecord n) noRecord }
 
 -- the refusal's number, 0 for none, with the record that is returned and the buffers at exit
 pub record Outcome : Type 0 where

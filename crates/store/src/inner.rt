@@ -1,5 +1,6 @@
-// For the layers above: writing eight bytes, and an append that does not test the store again. Its caller keeps what it asks
-// as an invariant, so that reading a text of 1,700 events does not test the store 1,700 times.
+// For the layers above: the two records without events, writing eight bytes, and an append that does not test the store
+// again. Its caller keeps what it asks as an invariant, so that reading a text of 1,700 events does not test the store 1,700
+// times.
 use crate::writing::write_event;
 use model::Event;
 use model::Record;
@@ -11,8 +12,25 @@ ghost use mathlib.Core.Path.{_≡_};
 ghost use Prim.Native.Nat.{_+_, _≤_};
 ghost use lib.ListN.{length};
 ghost use lib.Seq.{sets};
-ghost use Rattle.model.specs.Store.{storeOf};
+ghost use Rattle.model.specs.Store.{storeOf, freshRecord, noRecord};
 ghost use Rattle.store.specs.Outcomes.{AppendReady, appended, AppendedTo};
+
+// A record before its first event.
+pub fn fresh_record(tablets: u8) -> Record
+    ensures { λ r. ⌜ r ≡ freshRecord tablets ⌝ }
+{
+    Record { tablets, events: 0 }
+}
+
+// The record of an opening that is refused, and of a text whose head is.
+pub fn no_record() -> Record
+    ensures { λ r. ⌜ r ≡ noRecord ⌝ }
+{
+    Record {
+        tablets: 0,
+        events: 0,
+    }
+}
 
 // Eight bytes written into lent bytes: a clock into its slot, a cut into an output.
 pub fn write_eight(bytes: &mut [u8], from: usize, eight: [u8; 8])

@@ -6,10 +6,12 @@ mod testing;
 mod writing;
 
 use inner::append;
+use inner::fresh_record;
+use inner::no_record;
 use model::Event;
 use model::Record;
-use model::Refusal;
 use model::Verdict;
+use testing::record_verdict;
 use testing::test_store;
 ghost use mathlib.Core.Path.{_≡_};
 ghost use Rattle.model.specs.Refusals.{verdictNumber};
@@ -26,27 +28,17 @@ pub struct Taken {
 pub fn open(tablets: u8) -> Taken
     ensures { λ r. ⌜ opened r ≡ opening tablets ⌝ }
 {
-    if tablets == 0 {
-        return refused_width();
-    }
-    if 8 < tablets {
-        return refused_width();
-    }
-    Taken {
-        verdict: Verdict::Passed,
-        record: Record { tablets, events: 0 },
-    }
-}
-
-fn refused_width() -> Taken
-    ensures { λ r. ⌜ opened r ≡ opening 0 ⌝ }
-{
-    Taken {
-        verdict: Verdict::Refused(Refusal::NoSuchTabletCount),
-        record: Record {
-            tablets: 0,
-            events: 0,
-        },
+    let record = fresh_record(tablets);
+    let v = record_verdict(record);
+    match v {
+        Verdict::Refused(_) => {
+            let none = no_record();
+            Taken {
+                verdict: v,
+                record: none,
+            }
+        }
+        Verdict::Passed => Taken { verdict: v, record },
     }
 }
 

@@ -4,11 +4,9 @@ use mathlib.Core.Bool.{cond}
 use mathlib.Core.List.{List}
 use lib.Dec.{ltb, eqb}
 use lib.ListN.{length, drop}
-use Rattle.model.specs.declared.Record.{Record}
-use Rattle.model.specs.Numbers.{tabletsFit}
 use Rattle.model.specs.Refusals.{verdictNumber}
-use Rattle.model.specs.Store.{Store, storeOf, fullSizes}
-use Rattle.store.specs.Outcomes.{appending}
+use Rattle.model.specs.Store.{Store, storeOf, noRecord, fullSizes}
+use Rattle.store.specs.Outcomes.{Opened, opening, appending}
 use Rattle.lines.specs.Find.{restLines}
 use Rattle.loglines.specs.declared.events.EventLines.{EventLines}
 use Rattle.text.specs.declared.reading.ReadAnswer.{ReadAnswer}
@@ -67,12 +65,14 @@ readFrom (suc turns) s line text =
 unfoldable pub readOn : Store → ℕ → List ℕ → ReadOutcome
 readOn s line text = readFrom (2033 - s .events) s line text
 
--- "for reading without an accepted `tablets` line as (0, 0)"; "Reading opens a fresh record", (n, 0)
+-- "for reading without an accepted `tablets` line as (0, 0)"
 abbrev pub nothingRead : List ℕ → List ℕ → List ℕ → Store
-nothingRead clocks held order = record { tablets = 0; events = 0; clocks = clocks; held = held; order = order }
+nothingRead clocks held order = storeOf noRecord clocks held order
 
-abbrev pub freshRecord : ℕ → Record
-freshRecord n = record { tablets = n; events = 0 }
+-- rule 41: the number of the `tablets` line is opened, and where opening refuses it, line 1 is named
+abbrev pub openedText : Opened → List ℕ → List ℕ → List ℕ → ReadOutcome
+openedText o clocks held order =
+    record { refusal = o .refusal; line = cond (eqb (o .refusal) 0) 0 1; store = storeOf (o .returned) clocks held order }
 
 -- "Reading gives 2 first (line 0), then goes line by line": 12 for a faulty `tablets` line, 1 for a number of tablets that
 -- opening refuses, else the fresh record
@@ -80,8 +80,7 @@ unfoldable pub beginning : List ℕ → List ℕ → List ℕ → List ℕ → R
 beginning text clocks held order =
     cond (fullSizes clocks held order)
     (withNumber (numberLine tabletsKey 255 text) (refused 12 1 (nothingRead clocks held order))
-    λ n. cond (tabletsFit n) (record { refusal = 0; line = 0; store = storeOf (freshRecord n) clocks held order })
-    (refused 1 1 (nothingRead clocks held order)))
+    λ n. openedText (opening n) clocks held order)
     (refused 2 0 (nothingRead clocks held order))
 
 -- then the events

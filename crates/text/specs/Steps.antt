@@ -10,7 +10,7 @@ use Rattle.model.specs.declared.Verdict.{Verdict}
 use Rattle.model.specs.declared.Verdict.the-variants.{Passed}
 use Rattle.model.specs.Lists.{zeros}
 use Rattle.model.specs.Refusals.{verdictNumber}
-use Rattle.model.specs.Store.{Store, storeOf, fullSizes}
+use Rattle.model.specs.Store.{Store, storeOf, noRecord, fullSizes}
 use Rattle.store.specs.Outcomes.{AppendReady}
 use Rattle.loglines.specs.Events.{eventLines}
 use Rattle.text.specs.declared.reading.ReadAnswer.{ReadAnswer}
@@ -45,7 +45,7 @@ pub record Placed (text : List ℕ) (at line : ℕ) : Type 0 where
 -- before the first turn nothing has been read
 abbrev pub begunStep : Step
 begunStep =
-    record { more = true; at = 0; line = 1; verdict = Passed; «record» = record { tablets = 0; events = 0 }; tallies = zeros; opened = false }
+    record { more = true; at = 0; line = 1; verdict = Passed; «record» = noRecord; tallies = zeros; opened = false }
 
 -- reading halts at an offset and line, and keeps what was read before
 abbrev pub halted : Step → Verdict → ℕ → ℕ → Step

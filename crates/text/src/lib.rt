@@ -5,11 +5,12 @@ mod head;
 pub mod reading;
 mod steps;
 
-use model::Record;
 use model::Refusal;
 use model::Verdict;
 use reading::ReadAnswer;
 use reading::read_lines;
+use store::inner::fresh_record;
+use store::inner::no_record;
 pub use writer::WriteAnswer;
 pub use writer::write;
 ghost use mathlib.Core.Path.{_≡_};
@@ -20,16 +21,10 @@ ghost use Rattle.text.specs.Reading.{reading, readOutcome};
 pub fn read(text: &[u8], clocks: &mut [u8], held: &mut [u16], order: &mut [u8]) -> ReadAnswer
     ensures { λ r. ⌜ readOutcome r (now (clocks .exit)) (now (held .exit)) (now (order .exit)) ≡ reading (now (text .entry)) (now (clocks .entry)) (now (held .entry)) (now (order .entry)) ⌝ }
 {
-    let smallest = Record {
-        tablets: 1,
-        events: 0,
-    };
+    let smallest = fresh_record(1);
     let sizes = store::check(smallest, clocks, held, order);
     let Verdict::Passed = sizes else {
-        let none = Record {
-            tablets: 0,
-            events: 0,
-        };
+        let none = no_record();
         return ReadAnswer {
             verdict: Verdict::Refused(Refusal::ShortBuffer),
             line: 0,

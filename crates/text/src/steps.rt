@@ -2,6 +2,7 @@
 use crate::reading::ReadAnswer;
 use model::Record;
 use model::Verdict;
+use store::inner::no_record;
 ghost use mathlib.Core.Path.{_≡_};
 ghost use Rattle.text.specs.Steps.{begunStep, halted, stoppedAt};
 
@@ -21,10 +22,7 @@ pub(crate) struct Step {
 pub(crate) fn begun() -> Step
     ensures { λ r. ⌜ r ≡ begunStep ⌝ }
 {
-    let none = Record {
-        tablets: 0,
-        events: 0,
-    };
+    let none = no_record();
     Step {
         more: true,
         at: 0,

@@ -3,7 +3,7 @@ use mathlib.Core.Path.{_≡_, refl, sym, _∙_}
 use mathlib.Core.List.{List, []}
 use Prim.Native.Nat.{ℕ}
 use Rattle.model.specs.declared.Question.{Question}
-use Rattle.model.specs.Store.{Store}
+use Rattle.model.specs.Store.{Store, storeOf, noRecord}
 use Rattle.questions.specs.Holdings.{ForHeld}
 use Rattle.walks.specs.declared.counting.Tally.{Tally}
 use Rattle.walks.specs.declared.finding.First.{First}
@@ -22,7 +22,7 @@ first-meeting-unique held question cuts a b f g =
     λ i. record { found = (p .found-is ∙ sym (q .found-is)) i; cut = record { counts = (p .cut-is ∙ sym (q .cut-is)) i } }
   where
     some : Store
-    some = record { tablets = 0; events = 0; clocks = []; held = held; order = [] }
+    some = storeOf noRecord [] held []
 
 pub show-unique : (cuts : List (List ℕ)) (out : List ℕ) (a b : Shown) (first second : List ℕ) → ShownOf cuts out (a .written) (a .place) (a .more) first → ShownOf cuts out (b .written) (b .place) (b .more) second → (a ≡ b) × (first ≡ second)
 show-unique cuts out a b first second p q = (

@@ -4,7 +4,7 @@ use Rattle.model.specs.Lists.{eight, zeros}
 use Rattle.model.specs.Numbers.{slot}
 use Rattle.model.specs.Clocks.{clockIn, covered}
 use Rattle.model.specs.Follow.{tallies, tabletRefusal, othersWithin, covers, clockRefusal, followRefusal}
-use Rattle.model.specs.Store.{accepted, eventRefusal}
+use Rattle.model.specs.Store.{recordRefusal, accepted, eventRefusal}
 use Rattle.model.specs.Cuts.{closed, consistent, cutsBetween, interval, allCuts, total}
 use Rattle.model.specs.Questions.{holding, sumHeld, meets, setFits, answer}
 use Rattle.model.specs.Cases.{passed}
@@ -22,5 +22,5 @@ use Rattle.report.specs.Report.{counting, answering, answeringRead, tracing, lo
 use Rattle.worked.specs.Reports.{table}
 
 pub reports-as-written : T (passed table)
-unfolding eight zeros slot clockIn covered tallies tabletRefusal othersWithin covers clockRefusal followRefusal accepted eventRefusal closed consistent cutsBetween interval allCuts total holding sumHeld meets setFits answer decimal plain digitsFrom number lineLength valueBehind notListed listed keyLine listLine pairLine namedSet allForm exactlyForm askOf askLine numberLine clockLine endsHere heldPart clockPart eventLines ending turn readOn beginning reading witnessLine headLines tailLines answerLines counting answering answeringRead tracing looking reporting
+unfolding eight zeros slot clockIn covered tallies tabletRefusal othersWithin covers clockRefusal followRefusal recordRefusal accepted eventRefusal closed consistent cutsBetween interval allCuts total holding sumHeld meets setFits answer decimal plain digitsFrom number lineLength valueBehind notListed listed keyLine listLine pairLine namedSet allForm exactlyForm askOf askLine numberLine clockLine endsHere heldPart clockPart eventLines ending turn readOn beginning reading witnessLine headLines tailLines answerLines counting answering answeringRead tracing looking reporting
 reports-as-written = tt

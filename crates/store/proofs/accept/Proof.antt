@@ -16,17 +16,33 @@ enum-told c = search needs
 enum-told-2 : tie.Need-enum-told-2
 enum-told-2 c = search needs
 
+-- the entry from the test, the test from its two ends, the end that passed from the append, and the append from the return
+abbrev start : tie.After-test-store → tie.Start
+start c = c .before .before .before .before .before .before .before
+
+abbrev tested : tie.After-enum-told → tie.After-test-store
+tested c = c .before .before
+
+abbrev tested-2 : tie.After-enum-told2 → tie.After-test-store
+tested-2 c = c .before .before
+
+abbrev told : tie.After-append-arg3 → tie.After-enum-told2
+told c = c .before .before .before .before
+
+abbrev call : tie.After-record → tie.After-append
+call c = c .before .before .before .before .before .before .before
+
 abbrev st : tie.Start → Store
 st c = storeOf (c .args .«record») (c .args .clocks .now) (c .args .held .now) (c .args .order .now)
 
 -- where the test passed, nothing refuses the store
-passed : (c : tie.After-enum-told2) → storeRefusal (st (c .before .before .before .before .before .before .before .before .before)) ≡ 0
-passed c = passed-zero (c .before .before .test-store .result .verdict) _ (c .before .before .test-store .ensures .number) (c .enum-told2 .given .1)
+passed : (c : tie.After-enum-told2) → storeRefusal (st (start (tested-2 c))) ≡ 0
+passed c = passed-zero (tested-2 c .test-store .result .verdict) _ (tested-2 c .test-store .ensures .number) (c .enum-told2 .given .1)
 
 append-requires : tie.Need-append-requires
 append-requires c κs =
-    let none = passed (c .before .before .before .before) in
-    record { refusal = none; tally = c .before .before .before .before .before .before .test-store .ensures .tally none }
+    let none = passed (told c) in
+    record { refusal = none; tally = tested-2 (told c) .test-store .ensures .tally none }
 
 same-length : tie.Need-same-length
 same-length c = search needs
@@ -39,8 +55,9 @@ same-length-3 c = search needs
 
 returns : tie.Need-returns
 returns c =
-    accept-refused (st (c .before .before .before .before .before .before .before .before .before)) (c .before .before .before .before .before .before .before .before .before .args .event) _ (c .before .before .test-store .ensures .number)
-    (refused-some (c .before .before .test-store .result .verdict) _ _ (c .before .before .test-store .ensures .number) (c .enum-told .given .1))
+    let k = tested c in
+    accept-refused (st (start k)) (start k .args .event) _ (k .test-store .ensures .number)
+    (refused-some (k .test-store .result .verdict) _ _ (k .test-store .ensures .number) (c .enum-told .given .1))
 
 same-length-4 : tie.Need-same-length-4
 same-length-4 c = search needs
@@ -53,7 +70,9 @@ same-length-6 c = search needs
 
 returns-2 : tie.Need-returns-2
 returns-2 c =
-    accept-appended (st (c .before .before .before .before .before .before .before .before .before .before .before .before .before .before .before .before .before .before .before .before .before)) (c .before .before .before .before .before .before .before .before .before .before .before .before .before .before .before .before .before .before .before .before .before .args .event) _ (passed (c .before .before .before .before .before .before .before .before .before .before .before .before)) (c .before .before .before .before .before .before .before .append .ensures .outcome-is)
+    let k = told (call c .before) in
+    let s = start (tested-2 k) in
+    accept-appended (st s) (s .args .event) _ (passed k) (call c .append .ensures .outcome-is)
 
 pub accept-spec : {M : Type 1} → statement M
 accept-spec =

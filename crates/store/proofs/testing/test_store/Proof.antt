@@ -1,116 +1,129 @@
--- `test_store`: each way out is one link of the chain 1, 2, 3, or the end of it.
-use mathlib.Core.Path.{_≡_, sym, ap, _∙_}
+-- `test_store`: what is tested before the events, then the run over them.
+use mathlib.Core.Path.{_≡_, sym, ap, ap₂, _∙_}
 use mathlib.Core.Bool.{Bool, true, cond, not}
+use Prim.Native.Nat.{_≤_}
 use native.Mathlib.Omega.{arith}
-use borrow.Author.Tests.{not-true, not-false}
-use Rattle.model.specs.Refusals.{verdictNumber}
-use Rattle.model.specs.Numbers.{tabletsFit}
-use Rattle.model.specs.Store.{storeOf, fullSize, storeRefusal}
-use Rattle.model.proofs.Tests.{from-true}
-use Rattle.model.proofs.Sound.{full-sizes}
-use Rattle.store.proofs.Verdicts.{some-tablets, no-tablets, many-tablets, refused-1, refused-2, by-valid, too-many, valid-follow, tested-refused}
 use borrow.Author.Needs.{needs}
+use Rattle.model.specs.Refusals.{verdictNumber, orElse}
+use Rattle.model.specs.Store.{Store, storeOf, recordOf, fullSize, recordRefusal, storeRefusal}
+use Rattle.model.proofs.Tests.{from-true}
+use Rattle.model.proofs.Refusals.{passed-zero, refused-some}
+use Rattle.model.proofs.Sound.{Full, full-sizes}
+use Rattle.store.proofs.Verdicts.{narrow-record, before-events, refused-before, passed-before, by-valid, too-many, valid-follow, tested-refused}
 use Rattle.store.proofs.testing.test_store.Statement.{statement}
 use Rattle.store.proofs.testing.test_store.Tie as tie
 
--- past the first two tests there are 1 to 8 tablets; past the third the buffers are of full size
-width : (c : tie.Else2) → tabletsFit (c .before .before .before .before .before .args .«record» .tablets) ≡ true
-width c = some-tablets (c .before .before .before .before .before .args .«record» .tablets) (omega arith) (omega arith)
+abbrev start : tie.After-or-else → tie.Start
+start c = c .before .before .before .before .before .before
 
-sizes : (c : tie.Else3) → fullSize (storeOf (c .before .before .before .before .before .before .before .args .«record») (c .before .before .before .before .before .before .before .args .clocks .now) (c .before .before .before .before .before .before .before .args .held .now) (c .before .before .before .before .before .before .before .args .order .now)) ≡ true
+-- where both tests passed, and from the run over the events
+abbrev asked : tie.After-enum-told → tie.After-or-else
+asked c = c .before .before
+
+abbrev told : tie.Else1 → tie.After-enum-told
+told c = c .before .before
+
+abbrev st : tie.After-or-else → Store
+st c = storeOf (start c .args .«record») (start c .args .clocks .now) (start c .args .held .now) (start c .args .order .now)
+
+-- the verdict before the events
+before-is : (c : tie.After-or-else) → verdictNumber (c .or-else .result) ≡ before-events (st c)
 unfolding fullSize
-sizes c = sym (c .before .full-size .ensures) ∙ not-false (c .before .full-size .result) (c .if3 .left)
+before-is c =
+    c .or-else .ensures
+    ∙ ap₂ orElse (c .before .before .record-verdict .ensures) (c .before .size-verdict .ensures)
+
+passed : (c : tie.After-enum-told) → (recordRefusal (recordOf (st (asked c))) ≡ 0) × (fullSize (st (asked c)) ≡ true)
+passed c = passed-before (st (asked c)) (passed-zero (asked c .or-else .result) _ (before-is (asked c)) (c .enum-told .given .1))
+
+full : (c : tie.After-enum-told) → Full (st (asked c))
+full c = full-sizes (st (asked c)) (from-true (fullSize (st (asked c))) (passed c .1))
 
 -- then the run over the events decides
-verdict-by-run : (c : tie.After-follow-all) → storeRefusal (storeOf (c .before .before .before .before .before .before .before .before .before .before .args .«record») (c .before .before .before .before .before .before .before .before .before .before .args .clocks .now) (c .before .before .before .before .before .before .before .before .before .before .args .held .now) (c .before .before .before .before .before .before .before .before .before .before .args .order .now)) ≡ cond (not (c .follow-all .result .passed)) 3 0
+verdict-by-run : (c : tie.After-follow-all) → storeRefusal (st (asked (told (c .before)))) ≡ cond (not (c .follow-all .result .passed)) 3 0
 verdict-by-run c =
-    let s = storeOf (c .before .before .before .before .before .before .before .before .before .before .args .«record») (c .before .before .before .before .before .before .before .before .before .before .args .clocks .now) (c .before .before .before .before .before .before .before .before .before .before .args .held .now) (c .before .before .before .before .before .before .before .before .before .before .args .order .now) in
-    by-valid s (width (c .before .before .before .before .before)) (sizes (c .before .before .before))
+    let k = told (c .before) in
+    let s = st (asked k) in
+    by-valid s (passed k .0) (passed k .1)
     ∙ ap (λ (v : Bool). cond (not v) 3 0) (valid-follow s (omega arith) ∙ sym (c .follow-all .ensures .answer))
+
+record-verdict-requires : tie.Need-record-verdict-requires
+record-verdict-requires c κs = search needs
+
+size-verdict-requires : tie.Need-size-verdict-requires
+size-verdict-requires c κs = search needs
+
+or-else-requires : tie.Need-or-else-requires
+or-else-requires c κs = search needs
+
+enum-told : tie.Need-enum-told
+enum-told c = search needs
+
+enum-told-2 : tie.Need-enum-told-2
+enum-told-2 c = search needs
 
 test-refused-requires : tie.Need-test-refused-requires
 test-refused-requires c κs = search needs
 
 returns : tie.Need-returns
 returns c =
-    let s = storeOf (c .before .before .before .before .before .args .«record») (c .before .before .before .before .before .args .clocks .now) (c .before .before .before .before .before .args .held .now) (c .before .before .before .before .before .args .order .now) in
-    tested-refused s (c .test-refused .result .verdict) (c .test-refused .result .counts) 1 (omega arith) (ap verdictNumber (c .test-refused .ensures))
-    (refused-1 s (no-tablets (s .tablets) (c .before .if1 .taken)))
+    let k = c .before .before .before in
+    let s = st k in
+    let some : 1 ≤ before-events s = refused-some (k .or-else .result) _ _ (before-is k) (c .before .enum-told2 .given .1) in
+    tested-refused s (c .test-refused .result .verdict) (c .test-refused .result .counts) (before-events s) some (ap verdictNumber (c .test-refused .ensures) ∙ before-is k)
+    (refused-before s some)
+
+cast-events : tie.Need-cast-events
+cast-events c = search needs
 
 test-refused-requires-2 : tie.Need-test-refused-requires-2
 test-refused-requires-2 c κs = search needs
 
 returns-2 : tie.Need-returns-2
 returns-2 c =
-    let s = storeOf (c .before .before .before .before .before .before .args .«record») (c .before .before .before .before .before .before .args .clocks .now) (c .before .before .before .before .before .before .args .held .now) (c .before .before .before .before .before .before .args .order .now) in
-    tested-refused s (c .test-refused2 .result .verdict) (c .test-refused2 .result .counts) 1 (omega arith) (ap verdictNumber (c .test-refused2 .ensures))
-    (refused-1 s (many-tablets (s .tablets) (c .before .if2 .taken)))
+    let k = c .before .before .before in
+    let s = st (asked k) in
+    tested-refused s (c .test-refused2 .result .verdict) (c .test-refused2 .result .counts) 3 (omega arith) (ap verdictNumber (c .test-refused2 .ensures))
+    (by-valid s (passed k .0) (passed k .1) ∙ ap (λ (v : Bool). cond (not v) 3 0) (too-many s (c .before .if1 .taken)))
 
-full-size-requires : tie.Need-full-size-requires
-full-size-requires c κs = search needs
+follow-all-requires : tie.Need-follow-all-requires
+follow-all-requires c κs =
+    let k = told c in
+    let sizes = full k in
+    (narrow-record (recordOf (st (asked k))) (passed k .0), sizes .clocks, omega (arith, sizes .order))
+
+returns-3 : tie.Need-returns-3
+returns-3 c =
+    let run = c .before .before in
+    record {
+      number = sym (verdict-by-run run ∙ ap (λ (v : Bool). cond (not v) 3 0) (c .before .if2 .taken));
+      tally = λ z. run .follow-all .ensures .tally (c .before .if2 .taken);
+    }
 
 test-refused-requires-3 : tie.Need-test-refused-requires-3
 test-refused-requires-3 c κs = search needs
 
-returns-3 : tie.Need-returns-3
-unfolding fullSize
-returns-3 c =
-    let s = storeOf (c .before .before .before .before .before .before .before .before .args .«record») (c .before .before .before .before .before .before .before .before .args .clocks .now) (c .before .before .before .before .before .before .before .before .args .held .now) (c .before .before .before .before .before .before .before .before .args .order .now) in
-    tested-refused s (c .test-refused3 .result .verdict) (c .test-refused3 .result .counts) 2 (omega arith) (ap verdictNumber (c .test-refused3 .ensures))
-    (refused-2 s (width (c .before .before .before))
-    (sym (c .before .before .full-size .ensures) ∙ not-true (c .before .before .full-size .result) (c .before .if3 .taken)))
-
-cast-events : tie.Need-cast-events
-cast-events c = search needs
-
-test-refused-requires-4 : tie.Need-test-refused-requires-4
-test-refused-requires-4 c κs = search needs
-
 returns-4 : tie.Need-returns-4
 returns-4 c =
-    let s = storeOf (c .before .before .before .before .before .before .before .before .before .before .args .«record») (c .before .before .before .before .before .before .before .before .before .before .args .clocks .now) (c .before .before .before .before .before .before .before .before .before .before .args .held .now) (c .before .before .before .before .before .before .before .before .before .before .args .order .now) in
-    tested-refused s (c .test-refused4 .result .verdict) (c .test-refused4 .result .counts) 3 (omega arith) (ap verdictNumber (c .test-refused4 .ensures))
-    (by-valid s (width (c .before .before .before .before .before)) (sizes (c .before .before .before))
-    ∙ ap (λ (v : Bool). cond (not v) 3 0) (too-many s (c .before .if4 .taken)))
-
-follow-all-requires : tie.Need-follow-all-requires
-follow-all-requires c κs =
-    let full = full-sizes (storeOf (c .before .before .before .before .before .before .before .before .before .args .«record») (c .before .before .before .before .before .before .before .before .before .args .clocks .now) (c .before .before .before .before .before .before .before .before .before .args .held .now) (c .before .before .before .before .before .before .before .before .before .args .order .now)) (from-true _ (sizes (c .before .before))) in
-    (omega arith, full .clocks, omega (arith, full .order))
-
-returns-5 : tie.Need-returns-5
-returns-5 c =
-    let s = storeOf (c .before .before .before .before .before .before .before .before .before .before .before .before .args .«record») (c .before .before .before .before .before .before .before .before .before .before .before .before .args .clocks .now) (c .before .before .before .before .before .before .before .before .before .before .before .before .args .held .now) (c .before .before .before .before .before .before .before .before .before .before .before .before .args .order .now) in
-    let run = c .before .before .follow-all in
-    record {
-      number = sym (verdict-by-run (c .before .before) ∙ ap (λ (v : Bool). cond (not v) 3 0) (c .before .if5 .taken));
-      tally = λ z. run .ensures .tally (c .before .if5 .taken);
-    }
-
-test-refused-requires-5 : tie.Need-test-refused-requires-5
-test-refused-requires-5 c κs = search needs
-
-returns-6 : tie.Need-returns-6
-returns-6 c =
-    let s = storeOf (c .before .before .before .before .before .before .before .before .before .before .before .before .args .«record») (c .before .before .before .before .before .before .before .before .before .before .before .before .args .clocks .now) (c .before .before .before .before .before .before .before .before .before .before .before .before .args .held .now) (c .before .before .before .before .before .before .before .before .before .before .before .before .args .order .now) in
-    tested-refused s (c .test-refused5 .result .verdict) (c .test-refused5 .result .counts) 3 (omega arith) (ap verdictNumber (c .test-refused5 .ensures))
-    (verdict-by-run (c .before .before) ∙ ap (λ (v : Bool). cond (not v) 3 0) (c .before .if5 .left))
+    let run = c .before .before in
+    tested-refused (st (asked (told (run .before)))) (c .test-refused3 .result .verdict) (c .test-refused3 .result .counts) 3 (omega arith) (ap verdictNumber (c .test-refused3 .ensures))
+    (verdict-by-run run ∙ ap (λ (v : Bool). cond (not v) 3 0) (c .before .if2 .left))
 
 pub test-store-spec : {M : Type 1} → statement M
 test-store-spec =
     tie.close
     (tie.spec
+    record-verdict-requires
+    size-verdict-requires
+    or-else-requires
+    enum-told
+    enum-told-2
     test-refused-requires
     returns
+    cast-events
     test-refused-requires-2
     returns-2
-    full-size-requires
-    test-refused-requires-3
-    returns-3
-    cast-events
-    test-refused-requires-4
-    returns-4
     follow-all-requires
-    returns-5
-    test-refused-requires-5
-    returns-6)
+    returns-3
+    test-refused-requires-3
+    returns-4)

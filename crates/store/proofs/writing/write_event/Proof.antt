@@ -1,6 +1,8 @@
 -- `write_event`: a sound store and an event that may follow leave room for each write; the three writes are the accepted store.
-use Prim.Native.Nat.{_<_}
+use Prim.Native.Nat.{_≤_, _<_}
 use native.Mathlib.Omega.{arith}
+use Rattle.model.specs.Lists.{at}
+use Rattle.model.specs.Numbers.{column}
 use Rattle.model.specs.Store.{Store, storeOf}
 use Rattle.model.proofs.Sound.{Full}
 use Rattle.store.proofs.Ready.{tested-full, tablet-positive, own-fits, count-room, slot-room, event-room, written}
@@ -8,74 +10,82 @@ use borrow.Author.Needs.{needs}
 use Rattle.store.proofs.writing.write_event.Statement.{statement}
 use Rattle.store.proofs.writing.write_event.Tie as tie
 
+-- the entry from the event's tablet, the slot from the write of the clock, and that write from the last ones
+abbrev start : tie.After-tablet → tie.Start
+start c = c .before .before .before .before
+
+abbrev placed : tie.After-write-eight-arg → tie.After-slot-of
+placed c = c .before .before
+
+abbrev clocked : tie.After-slice-known4 → tie.After-write-eight
+clocked c = c .before .before
+
+abbrev entry : tie.After-slot-of → tie.Start
+entry c = start (c .before)
+
+abbrev first : tie.After-slice-known4 → tie.Start
+first c = entry (placed (clocked c .before))
+
 abbrev st : tie.Start → Store
 st c = storeOf (c .args .«record») (c .args .clocks .now) (c .args .held .now) (c .args .order .now)
 
 full : (c : tie.Start) → Full (st c)
 full c = tested-full (st c) (c .pre .ready .refusal)
 
+-- what the laws say of an event that may follow, at the entry
+positive : (c : tie.Start) → 1 ≤ c .args .event .tablet .0
+positive c = tablet-positive (st c) (c .args .t5) (c .args .event) (c .pre)
+
+own : (c : tie.Start) → column (c .args .event .tablet) < 8
+own c = own-fits (st c) (c .args .t5) (c .args .event) (c .pre)
+
+room : (c : tie.Start) → at (c .args .t5) (column (c .args .event .tablet)) < 254
+room c = count-room (st c) (c .args .t5) (c .args .event) (c .pre)
+
+more : (c : tie.Start) → c .args .«record» .events < 2032
+more c = event-room (st c) (c .args .t5) (c .args .event) (c .pre)
+
 home-below : (c : tie.After-slot-of) → c .slot-of .result < 2032
-home-below c =
-    let s = c .before .before .before .before .before in
-    omega (arith, c .slot-of .ensures, slot-room (st s) (s .args .t5) (s .args .event) (s .pre))
+home-below c = omega (arith, c .slot-of .ensures, slot-room (st (entry c)) (entry c .args .t5) (entry c .args .event) (entry c .pre))
 
 sub-own : tie.Need-sub-own
-sub-own c =
-    let s = c .before .before .before .before in
-    tablet-positive (st s) (s .args .t5) (s .args .event) (s .pre)
+sub-own c = positive (start c)
 
 cast-own : tie.Need-cast-own
 cast-own c = search needs
 
 array-read-count : tie.Need-array-read-count
-array-read-count c =
-    let s = c .before .before .before .before in
-    own-fits (st s) (s .args .t5) (s .args .event) (s .pre)
+array-read-count c = own (start c)
 
 add-number : tie.Need-add-number
-add-number c =
-    let s = c .before .before .before .before in
-    omega (arith, count-room (st s) (s .args .t5) (s .args .event) (s .pre))
+add-number c = omega (arith, room (start c))
 
 slot-of-requires : tie.Need-slot-of-requires
-slot-of-requires c κs =
-    let home = c .before .before .before .before in
-    let own = own-fits (st home) (home .args .t5) (home .args .event) (home .pre) in (
-      tablet-positive (st home) (home .args .t5) (home .args .event) (home .pre),
-      omega (arith, own),
-      omega arith,
-      omega (arith, count-room (st home) (home .args .t5) (home .args .event) (home .pre)),
-    )
+slot-of-requires c κs = (positive (start c), omega (arith, own (start c)), omega arith, omega (arith, room (start c)))
 
 mul-write-eight : tie.Need-mul-write-eight
-mul-write-eight c = omega (arith, home-below (c .before .before))
+mul-write-eight c = omega (arith, home-below (placed c))
 
 write-eight-requires : tie.Need-write-eight-requires
-write-eight-requires c κs = omega (arith, home-below (c .before .before), full (c .before .before .before .before .before .before .before) .clocks)
+write-eight-requires c κs = omega (arith, home-below (placed c), full (entry (placed c)) .clocks)
 
 mul-held : tie.Need-mul-held
-mul-held c = omega (arith, home-below (c .before .before .before .before .before))
+mul-held c = omega (arith, home-below (placed (clocked c .before)))
 
 slice-write-held : tie.Need-slice-write-held
-slice-write-held c = omega (arith, home-below (c .before .before .before .before .before), full (c .before .before .before .before .before .before .before .before .before .before) .held)
+slice-write-held c = omega (arith, home-below (placed (clocked c .before)), full (first c) .held)
 
 cast-next : tie.Need-cast-next
 cast-next c = search needs
 
 slice-write-order : tie.Need-slice-write-order
-slice-write-order c =
-    let s = c .before .before .before .before .before .before .before .before .before .before .before in
-    omega (arith, event-room (st s) (s .args .t5) (s .args .event) (s .pre), full s .order)
+slice-write-order c = omega (arith, more (first (c .before)), full (first (c .before)) .order)
 
 array-write-counts : tie.Need-array-write-counts
-array-write-counts c =
-    let s = c .before .before .before .before .before .before .before .before .before .before .before in
-    own-fits (st s) (s .args .t5) (s .args .event) (s .pre)
+array-write-counts c = own (first (c .before))
 
 add-events : tie.Need-add-events
-add-events c =
-    let s = c .before .before .before .before .before .before .before .before .before .before .before .before in
-    omega (arith, event-room (st s) (s .args .t5) (s .args .event) (s .pre))
+add-events c = omega (arith, more (first (c .before .before)))
 
 same-length : tie.Need-same-length
 same-length c = search needs
@@ -88,8 +98,10 @@ same-length-3 c = search needs
 
 returns : tie.Need-returns
 returns c =
-    let s = c .before .before .before .before .before .before .before .before .before .before .before .before in
-    written (st s) (s .args .t5) (s .args .event) (s .pre) (c .before .before .before .before .before .before .before .slot-of .result) (c .before .before .before .before .write-eight .last .0) (c .before .before .before .before .before .before .before .slot-of .ensures) (c .before .before .before .before .write-eight .ensures)
+    let w = clocked (c .before .before) in
+    let s = first (c .before .before) in
+    let home = placed (w .before) .slot-of in
+    written (st s) (s .args .t5) (s .args .event) (s .pre) (home .result) (w .write-eight .last .0) (home .ensures) (w .write-eight .ensures)
 
 pub write-event-spec : {M : Type 1} → statement M
 write-event-spec =

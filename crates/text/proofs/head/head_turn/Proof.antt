@@ -1,6 +1,6 @@
 -- `head_turn`: the `tablets` line, and the reader behind it or at it.
 use mathlib.Core.Path.{_≡_, refl, sym, ap, _∙_, subst}
-use mathlib.Core.Bool.{true, cond}
+use mathlib.Core.Bool.{cond}
 use mathlib.Core.List.{[], _∷_}
 use Prim.Native.Nat.{ℕ, _+_, _-_}
 use native.Mathlib.Omega.{arith}
@@ -11,9 +11,10 @@ use Rattle.model.proofs.Refusals.{passed-zero, refused-some}
 use Rattle.model.specs.declared.Record.{Record}
 use Rattle.model.specs.declared.Refusal.the-variants.{FaultyLine}
 use Rattle.model.specs.declared.Verdict.the-variants.{Refused}
-use Rattle.model.specs.Numbers.{tabletsFit}
-use Rattle.model.specs.Store.{storeOf}
+use Rattle.model.specs.Refusals.{verdictNumber}
+use Rattle.model.specs.Store.{storeOf, freshRecord, recordRefusal}
 use Rattle.store.specs.Outcomes.{AppendReady}
+use Rattle.store.proofs.Outcomes.{when-some}
 use Rattle.lines.specs.declared.numbers.Number.the-variants.{Value}
 use Rattle.lines.specs.Find.{lineLength}
 use Rattle.lines.proofs.Entries.{rest-of}
@@ -21,10 +22,10 @@ use Rattle.loglines.specs.Keys.{numberLine, tabletsKey}
 use Rattle.loglines.specs.Events.{lineBytes}
 use Rattle.loglines.proofs.Lines.{number-some, value-limit}
 use Rattle.text.specs.declared.steps.Step.{Step}
-use Rattle.text.specs.Reading.{refused, nothingRead, freshRecord, readOn}
+use Rattle.text.specs.Reading.{refused, nothingRead, readOn}
 use Rattle.text.specs.Steps.{Placed, begunStep, halted}
 use Rattle.text.proofs.Halts.{halts}
-use Rattle.text.proofs.Opening.{opened-fits, opened-not, opened-refused, opened-fresh, fresh-store, reading-faulty, reading-width, reading-goes}
+use Rattle.text.proofs.Opening.{opened-number, opened-fresh, fresh-store, reading-faulty, reading-refused, reading-goes}
 use Rattle.text.proofs.Places.{at-front, line-on}
 use Rattle.text.proofs.head.head_turn.Statement.{statement}
 use Rattle.text.proofs.head.head_turn.Tie as tie
@@ -33,8 +34,18 @@ use Rattle.text.proofs.head.head_turn.Tie as tie
 abbrev start-of : tie.After-known-told → tie.Start
 start-of c = c .before .before .before .before .before .before .before
 
+abbrev count : tie.After-known-told → ℕ
+count c = c .before .n .given .0 .0
+
+-- the opening, from where it passed and from where it was refused
+abbrev call : tie.After-enum-told2 → tie.After-open
+call c = c .before .before .before
+
+abbrev call-2 : tie.After-halt2 → tie.After-open
+call-2 c = c .before .before .before .before .before
+
 abbrev known : tie.After-enum-told2 → tie.After-known-told
-known c = c .before .before .before .before
+known c = call c .before
 
 -- the reader stands at the front
 whole-text : (c : tie.Start) → take (length (c .args .src .now) - c .args .at) (drop (c .args .at) (c .args .src .now)) ≡ c .args .src .now
@@ -45,18 +56,18 @@ here c =
     subst (λ (k : ℕ). Placed (c .args .src .now) k (c .args .line)) (sym (c .pre .0))
     (subst (Placed (c .args .src .now) 0) (sym (c .pre .1)) (at-front (c .args .src .now)))
 
-count-is : (c : tie.After-known-told) → numberLine tabletsKey 255 (start-of c .args .src .now) ≡ Value (c .before .n .given .0 .0)
+count-is : (c : tie.After-known-told) → numberLine tabletsKey 255 (start-of c .args .src .now) ≡ Value (count c)
 count-is c = ap (numberLine tabletsKey 255) (sym (whole-text (start-of c))) ∙ sym (c .before .before .before .number-line .ensures) ∙ c .before .n .given .1
 
-width-fits : (c : tie.After-enum-told2) → tabletsFit (known c .before .n .given .0 .0) ≡ true
-width-fits c =
-    let o = c .before .before .before .«open» in
-    opened-fits (known c .before .n .given .0 .0) (o .result) (o .ensures) (passed-zero (o .result .verdict) _ refl (c .enum-told2 .given .1))
+-- the verdict of the opening is on the fresh record
+opened-as : (c : tie.After-open) → verdictNumber (c .«open» .result .verdict) ≡ recordRefusal (freshRecord (count (c .before)))
+opened-as c = opened-number (count (c .before)) (c .«open» .result) (c .«open» .ensures)
 
-fresh-is : (c : tie.After-enum-told2) → c .before .before .before .«open» .result .«record» ≡ freshRecord (known c .before .n .given .0 .0)
-fresh-is c =
-    let o = c .before .before .before .«open» in
-    opened-fresh (known c .before .n .given .0 .0) (o .result) (o .ensures) (width-fits c)
+record-fits : (c : tie.After-enum-told2) → recordRefusal (freshRecord (count (known c))) ≡ 0
+record-fits c = passed-zero (call c .«open» .result .verdict) _ (opened-as (call c)) (c .enum-told2 .given .1)
+
+fresh-is : (c : tie.After-enum-told2) → call c .«open» .result .«record» ≡ freshRecord (count (known c))
+fresh-is c = opened-fresh (count (known c)) (call c .«open» .result) (call c .«open» .ensures) (record-fits c)
 
 used-is : (c : tie.After-line-length) → c .line-length .result + 1 ≡ lineBytes (start-of (known (c .before .before)) .args .src .now)
 used-is c = ap (λ (k : ℕ). k + 1) (c .line-length .ensures ∙ ap lineLength (whole-text (start-of (known (c .before .before)))))
@@ -126,15 +137,16 @@ halt-requires-2 c κs = search needs
 
 returns-2 : tie.Need-returns-2
 returns-2 c =
-    let o = c .before .before .before .before .before .«open» in
-    let k = c .before .before .before .before .before .before in
+    let o = call-2 c .«open» in
+    let k = call-2 c .before in
     let s = start-of k in
+    let number = recordRefusal (freshRecord (count k)) in
     let said = c .halt2 .ensures ∙ ap (λ (x : Step). halted x (o .result .verdict) (s .args .at) (s .args .line)) (c .before .begun2 .ensures) in
-    let narrow = opened-not (k .before .n .given .0 .0) (o .result) (o .ensures) (refused-some (o .result .verdict) _ _ refl (c .before .before .enum-told3 .given .1)) in
+    let some = refused-some (o .result .verdict) _ _ (opened-as (call-2 c)) (c .before .before .enum-told3 .given .1) in
     λ clocks held order full. halts (s .args .src .now) (s .args .at) _ begunStep (o .result .verdict) (s .args .at) (s .args .line) (c .halt2 .result) clocks held order said
-    (ap (λ (number : ℕ). refused number (cond (eqb number 0) 0 (s .args .line)) (nothingRead clocks held order)) (opened-refused (k .before .n .given .0 .0) (o .result) (o .ensures) narrow)
-    ∙ ap (λ (line : ℕ). refused 1 line (nothingRead clocks held order)) (s .pre .1)
-    ∙ sym (reading-width (s .args .src .now) clocks held order full (k .before .n .given .0 .0) (count-is k) narrow))
+    (ap (λ (k : ℕ). refused k (cond (eqb k 0) 0 (s .args .line)) (nothingRead clocks held order)) (opened-as (call-2 c))
+    ∙ ap (λ (line : ℕ). refused number line (nothingRead clocks held order)) (when-some number 0 (s .args .line) some ∙ s .pre .1)
+    ∙ sym (reading-refused (s .args .src .now) clocks held order full (count k) (count-is k) some))
     (here s)
 
 sub-line-length : tie.Need-sub-line-length
@@ -167,13 +179,13 @@ returns-3 c =
     let second : s .args .line + 1 ≡ 2 = omega (arith, s .pre .1) in
     λ clocks held order full. record {
       outcome-is = ap (λ (r : Record). readOn (storeOf r clocks held order) (s .args .line + 1) (drop (s .args .at + (c .line-length .result + 1)) (s .args .src .now))) (fresh-is told)
-          ∙ ap (λ (line : ℕ). readOn (storeOf (freshRecord (k .before .n .given .0 .0)) clocks held order) line (drop (s .args .at + (c .line-length .result + 1)) (s .args .src .now))) second
-          ∙ ap (λ (at : ℕ). readOn (storeOf (freshRecord (k .before .n .given .0 .0)) clocks held order) 2 (drop at (s .args .src .now))) next
-          ∙ sym (reading-goes (s .args .src .now) clocks held order full (k .before .n .given .0 .0) (count-is k) (width-fits told));
+          ∙ ap (λ (line : ℕ). readOn (storeOf (freshRecord (count k)) clocks held order) line (drop (s .args .at + (c .line-length .result + 1)) (s .args .src .now))) second
+          ∙ ap (λ (at : ℕ). readOn (storeOf (freshRecord (count k)) clocks held order) 2 (drop at (s .args .src .now))) next
+          ∙ sym (reading-goes (s .args .src .now) clocks held order full (count k) (count-is k) (record-fits told));
       placed = behind c;
       on = λ _. record {
         opened-is = refl;
-        append = subst (λ (r : Record). AppendReady (storeOf r clocks held order) (0 ∷ 0 ∷ 0 ∷ 0 ∷ 0 ∷ 0 ∷ 0 ∷ 0 ∷ [])) (sym (fresh-is told)) (fresh-store clocks held order (k .before .n .given .0 .0) (width-fits told) full);
+        append = subst (λ (r : Record). AppendReady (storeOf r clocks held order) (0 ∷ 0 ∷ 0 ∷ 0 ∷ 0 ∷ 0 ∷ 0 ∷ 0 ∷ [])) (sym (fresh-is told)) (fresh-store clocks held order (count k) (record-fits told) full);
         further = omega arith;
       };
     }

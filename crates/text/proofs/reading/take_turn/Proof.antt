@@ -9,13 +9,26 @@ use Rattle.text.proofs.Halts.{taken-as}
 use Rattle.text.proofs.reading.take_turn.Statement.{statement}
 use Rattle.text.proofs.reading.take_turn.Tie as tie
 
+-- the entry from each way, and the call from the return of the first
+abbrev start : tie.Then1 → tie.Start
+start c = c .before .before .before .before .before
+
+abbrev start-2 : tie.Else1 → tie.Start
+start-2 c = c .before .before .before .before .before
+
+abbrev way : tie.After-event-turn-arg3 → tie.Then1
+way c = c .before .before .before
+
+abbrev call : tie.After-slice-known6 → tie.After-event-turn
+call c = c .before .before .before .before .before .before
+
 abbrev st : tie.Start → Store
 st c = storeOf (c .args .last .«record») (c .args .clocks .now) (c .args .held .now) (c .args .order .now)
 
 event-turn-requires : tie.Need-event-turn-requires
 event-turn-requires c κs =
-    let s = c .before .before .before .before .before .before .before .before in
-    record { placed = s .pre .placed; append = s .pre .append (c .before .before .before .if1 .taken) }
+    let s = start (way c) in
+    record { placed = s .pre .placed; append = s .pre .append (way c .if1 .taken) }
 
 same-length : tie.Need-same-length
 same-length c = search needs
@@ -28,18 +41,19 @@ same-length-3 c = search needs
 
 returns : tie.Need-returns
 returns c =
-    let s = c .before .before .before .before .before .before .before .before .before .before .before .before .before .before .before in
-    taken-as (s .args .src .now) (s .args .at) _ _ _ _ _ _ (sym (ap (λ (opened : Bool). readHere (s .args .src .now) opened (s .args .at) (s .args .line) (st s)) (c .before .before .before .before .before .before .before .before .before .before .if1 .taken))) (c .before .before .before .before .before .before .event-turn .ensures)
+    let w = way (call c .before) in
+    let s = start w in
+    taken-as (s .args .src .now) (s .args .at) _ _ _ _ _ _ (sym (ap (λ (opened : Bool). readHere (s .args .src .now) opened (s .args .at) (s .args .line) (st s)) (w .if1 .taken))) (call c .event-turn .ensures)
 
 head-turn-requires : tie.Need-head-turn-requires
 head-turn-requires c κs =
-    let s = c .before .before .before .before .before in
+    let s = start-2 c in
     let front = s .pre .front (c .if1 .left) .0 in
     (front, s .pre .placed .agrees ∙ ap (λ (k : ℕ). feeds k (s .args .src .now) + 1) front)
 
 returns-2 : tie.Need-returns-2
 returns-2 c =
-    let s = c .before .before .before .before .before .before in
+    let s = start-2 (c .before) in
     let off = c .before .if1 .left in
     taken-as (s .args .src .now) (s .args .at) _ _ _ _ _ _ (sym (ap (λ (opened : Bool). readHere (s .args .src .now) opened (s .args .at) (s .args .line) (st s)) off)) (c .head-turn .ensures (s .args .clocks .now) (s .args .held .now) (s .args .order .now) (s .pre .front off .1))
 
