@@ -17,27 +17,27 @@ use crate::write::begin;
 use std::num::wrapping_add_u64;
 
 // The next event of a chain is at hand: it knows all before it.
-fn next_of_chain(book: &mut Book, column: u64, placed: u64) {
+fn next_of_chain(book: &mut Book, column: u64, count: u64) {
     put_hand(book, column, wrapping_add_u64(hand(book, column), 1));
     put(book, HAND_TABLET, wrapping_add_u64(column, 1));
-    put(book, HAND_HELD, placed);
+    put(book, HAND_HELD, count);
 }
 
 // So many events of n tablets in turn.
-fn add_chain(book: &mut Book, n: u64, most: u64) {
+fn grow_chain(book: &mut Book, n: u64, most: u64) {
     begin(book, n);
     fill(book, HAND_CLOCK, HAND_CLOCK + 8, 0);
-    let mut placed: u64 = 0;
-    while placed < most {
-        next_of_chain(book, if n == 1 { 0 } else { placed % 8 }, placed);
+    let mut count: u64 = 0;
+    while count < most {
+        next_of_chain(book, if n == 1 { 0 } else { count % 8 }, count);
         add_event(book);
-        placed += 1;
+        count += 1;
     }
 }
 
 // A full tablet's event 254 is read, its event 255 refused 8.
 fn read_chain(book: &mut Book, n: u64, most: u64) {
-    add_chain(book, n, most);
+    grow_chain(book, n, most);
     read_whole(book, 0);
     read_whole(book, 4);
     next_of_chain(book, 0, 65535);

@@ -43,8 +43,8 @@ fn draw_day(book: &mut Book, n: u64, most: u64, talk: u64) {
     finish(book);
 }
 
-// One drawn trace: tablets, events and the talk between tablets go by its number.
-fn try_trace(book: &mut Book, turn: u64) {
+// The text of one drawn trace: tablets, events and the talk between tablets go by its number.
+fn try_text(book: &mut Book, turn: u64) {
     draw_day(book, turn % 8 + 1, turn / 8 % 30, turn / 8 % 5);
     add_one(book, TRACES);
     refuse_writing(book);
@@ -52,10 +52,10 @@ fn try_trace(book: &mut Book, turn: u64) {
     compare_readings(book);
 }
 
-fn try_traces(book: &mut Book) {
+fn try_texts(book: &mut Book) {
     let mut turn: u64 = 0;
     while turn < DRAWN {
-        try_trace(book, turn);
+        try_text(book, turn);
         turn += 1;
     }
 }
@@ -65,6 +65,6 @@ fn main() {
     put(&mut book, SEED, 20260);
     try_cases(&mut book);
     try_full(&mut book);
-    try_traces(&mut book);
+    try_texts(&mut book);
     say_summary(&book);
 }

@@ -1,14 +1,14 @@
--- `textvectors::full::add_chain` is safe and ends. Nothing has to hold from turn to turn; the measure is what is left to count.
+-- `textvectors::full::grow_chain` is safe and ends. Nothing has to hold from turn to turn; the measure is what is left to count.
 use borrow.Author.Needs.{needs}
 use Prim.Native.Nat.{_-_}
-use Rattle.textvectors.proofs.full.add_chain.Statement.{statement}
-use Rattle.textvectors.proofs.full.add_chain.Tie as tie
+use Rattle.textvectors.proofs.full.grow_chain.Statement.{statement}
+use Rattle.textvectors.proofs.full.grow_chain.Tie as tie
 
 abbrev Inv-loop : tie.InvT-loop
-Inv-loop book₀ n most placed₀ book placed = Unit {0}
+Inv-loop book₀ n most count₀ book count = Unit {0}
 
 abbrev μ-loop : tie.MeasureT-loop
-μ-loop book₀ n most placed₀ book placed = most - placed
+μ-loop book₀ n most count₀ book count = most - count
 
 begin-requires : tie.Need-begin-requires Inv-loop μ-loop
 begin-requires c κs = tt
@@ -28,8 +28,8 @@ next-of-chain-requires c κs = tt
 add-event-requires : tie.Need-add-event-requires Inv-loop μ-loop
 add-event-requires c κs = tt
 
-add-placed : tie.Need-add-placed Inv-loop μ-loop
-add-placed c = search needs
+add-count : tie.Need-add-count Inv-loop μ-loop
+add-count c = search needs
 
 loop-less : tie.Need-loop-less Inv-loop μ-loop
 loop-less c = search needs
@@ -40,8 +40,8 @@ loop-again c = tt
 returns : tie.Need-returns Inv-loop μ-loop
 returns c = tt
 
-pub add-chain-spec : {M : Type 1} → statement M
-add-chain-spec =
+pub grow-chain-spec : {M : Type 1} → statement M
+grow-chain-spec =
     tie.close
     (tie.spec
     Inv-loop
@@ -52,7 +52,7 @@ add-chain-spec =
     loop-holds
     next-of-chain-requires
     add-event-requires
-    add-placed
+    add-count
     loop-less
     loop-again
     returns)
