@@ -34,19 +34,16 @@ pub(crate) const SOME: u64 = 28672;
 
 pub(crate) const COPIED: u64 = 36864;
 
-pub(crate) const OWN: u64 = 184320;
+pub(crate) const OWN: u64 = 53248;
 // How many the library listed, of either day.
 pub(crate) const OWN_COUNT: u64 = 18526;
 
 pub(crate) const COPIED_COUNT: u64 = 18527;
 
-// What a call wrote into its output, a byte to a cell; the text that is read, likewise; and what a listing through a lent place
-// wrote.
+// What a call wrote into its output, a byte to a cell; and what a listing through a lent place wrote.
 pub(crate) const WRITTEN: u64 = 45056;
 
-pub(crate) const TEXT: u64 = 53248;
-
-pub(crate) const WRITTEN_MOVING: u64 = 192512;
+pub(crate) const WRITTEN_MOVING: u64 = 61440;
 
 pub(crate) fn tablets(book: &Book) -> u64 {
     cell(book, TABLETS)

@@ -6,7 +6,6 @@ use crate::cells::low_byte;
 use crate::cells::low_word;
 use crate::cells::packed;
 use crate::cells::unpacked;
-use crate::cells::wide;
 use crate::cells::wide_word;
 use crate::moving::list_by_moving;
 use crate::second::AT_LEAST;
@@ -18,7 +17,6 @@ use cuts::Listed;
 use cuts::Listing;
 use model::Cut;
 use model::Job;
-use model::PieceNumber;
 use model::Place;
 use model::Position;
 use model::Question;
@@ -145,8 +143,8 @@ fn call_count(record: Record, clocks: &[u8], held: &[u16], order: &[u8], request
     plain(verdict_word(verdict), counted.count, 0)
 }
 
-// What is asked of a store: which call, the interval or piece (`WHOLE` for the whole trace), the last interval of a gathering, the
-// place, the bytes that are lent, the question.
+// What is asked of a store: which call, the interval (`WHOLE` for the whole trace), the last interval of a gathering, the place,
+// the bytes that are lent, the question.
 pub(crate) struct Request {
     pub call: u64,
     pub p: u64,
@@ -166,11 +164,9 @@ pub(crate) const COUNT: u64 = 3;
 
 pub(crate) const ASK: u64 = 4;
 
-pub(crate) const WRITE: u64 = 5;
+pub(crate) const CHECK: u64 = 5;
 
-pub(crate) const CHECK: u64 = 6;
-
-pub(crate) const MOVE: u64 = 7;
+pub(crate) const MOVE: u64 = 6;
 
 fn place_of(begun: bool, cut: u64) -> Place {
     let counts = unpacked(cut);
@@ -313,24 +309,6 @@ fn call_ask(record: Record, clocks: &[u8], held: &[u16], order: &[u8], request: 
     plain(answer_word(answer), 0, packed(&counts))
 }
 
-fn call_write(
-    record: Record,
-    clocks: &[u8],
-    held: &[u16],
-    order: &[u8],
-    request: Request,
-    out: &mut [u8],
-) -> Said {
-    let length = request.length as usize;
-    if out.len() < length {
-        return nothing();
-    }
-    let piece = PieceNumber(low_word(request.p));
-    let written = text::write(record, clocks, held, order, piece, &mut out[..length]);
-    let verdict = written.verdict;
-    plain(verdict_word(verdict), written.length as u64, 0)
-}
-
 // The call that is asked for.
 pub(crate) fn call(
     record: Record,
@@ -346,42 +324,7 @@ pub(crate) fn call(
         GATHER => call_gather(record, clocks, held, order, request, out),
         COUNT => call_count(record, clocks, held, order, request),
         ASK => call_ask(record, clocks, held, order, request),
-        WRITE => call_write(record, clocks, held, order, request, out),
         MOVE => call_moving(record, clocks, held, order, request, out),
         _ => call_check(record, clocks, held, order),
-    }
-}
-
-// What reading said.
-pub(crate) struct Told {
-    pub word: u64,
-    pub line: u64,
-    pub tablets: u64,
-    pub events: u64,
-}
-
-pub(crate) fn untold() -> Told {
-    Told {
-        word: NOTHING,
-        line: 0,
-        tablets: 0,
-        events: 0,
-    }
-}
-
-pub(crate) fn call_read(
-    text: &[u8],
-    clocks: &mut [u8],
-    held: &mut [u16],
-    order: &mut [u8],
-) -> Told {
-    let answer = text::read(text, clocks, held, order);
-    let verdict = answer.verdict;
-    let record = answer.record;
-    Told {
-        word: verdict_word(verdict),
-        line: answer.line as u64,
-        tablets: wide(record.tablets),
-        events: record.events as u64,
     }
 }

@@ -6,7 +6,7 @@ use std::num::wrapping_sub_u64;
 
 // The program's buffers are arrays of fixed size: lent as such, no proof has to follow their length through a loop. The store's
 // three have four slots more than document 01 asks.
-pub(crate) type Book = [u64; 200704];
+pub(crate) type Book = [u64; 69632];
 
 pub(crate) type Clocks = [u8; 16288];
 
@@ -16,16 +16,14 @@ pub(crate) type Order = [u8; 2036];
 
 pub(crate) type Output = [u8; 4352];
 
-pub(crate) type Text = [u8; 122880];
-
 pub(crate) fn cell(book: &Book, i: u64) -> u64 {
     let at = i as usize;
-    if at < 200704 { book[at] } else { 0 }
+    if at < 69632 { book[at] } else { 0 }
 }
 
 pub(crate) fn put(book: &mut Book, i: u64, v: u64) {
     let at = i as usize;
-    if at < 200704 {
+    if at < 69632 {
         book[at] = v;
     }
 }

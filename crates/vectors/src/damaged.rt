@@ -1,15 +1,17 @@
 // Stores, positions, sets and outputs that are refused: by which number, and that nothing else is said or changed. A call is
 // given several faults at once, so that the first that applies is seen to be given.
 use crate::book::Row;
+use crate::book::clock_at;
 use crate::book::events;
+use crate::book::tablet_at;
 use crate::book::tablets;
 use crate::calls::CHECK;
 use crate::calls::LIST;
 use crate::calls::Request;
 use crate::calls::WHOLE;
-use crate::calls::WRITE;
 use crate::cells::Book;
 use crate::cells::cell;
+use crate::cells::entry;
 use crate::cells::put;
 use crate::cells::wide;
 use crate::cells::wide_word;
@@ -28,7 +30,6 @@ use crate::lend::accept_in_store;
 use crate::lend::lend_sound;
 use crate::lend::replayed;
 use crate::lend::slot_at;
-use crate::lend::stored_byte;
 use crate::notes::REFUSALS;
 use crate::notes::same;
 use crate::notes::same_word;
@@ -41,7 +42,7 @@ fn set_of(k: u64) -> Asking {
     Asking { question: SET, k }
 }
 
-// An interval, alone for a gathering, or a piece; a place that no interval has, an output that takes neither a cut nor a piece, a set without a tablet.
+// An interval, alone for a gathering; a place that no interval has, an output that takes no cut, a set without a tablet.
 fn faulty_request(call: u64, p: u64) -> Request {
     Request {
         call,
@@ -68,14 +69,13 @@ fn refuse(book: &mut Book, request: Request, number: u64) {
     compare_rest(book, 0, request.length);
 }
 
-// Listing, gathering, counting, asking and writing. The piece is the one behind p, which for p above T is above T+1.
+// Listing, gathering, counting and asking.
 fn refuse_at(book: &mut Book, p: u64, number: u64) {
     let mut call: u64 = 1;
-    while call < WRITE {
+    while call < CHECK {
         refuse(book, faulty_request(call, p), number);
         call += 1;
     }
-    refuse(book, faulty_request(WRITE, wrapping_add_u64(p, 1)), number);
 }
 
 // Accepting an event of tablet 0: refused, with the record as given.
@@ -168,27 +168,30 @@ pub(crate) fn refuse_questions(book: &mut Book) {
     }
 }
 
-// One byte of the clock of some event, or an order byte, as `lend` numbers them.
-fn draw_byte(book: &mut Book) -> u64 {
-    let q = draw(book, events(book));
+// A byte of the store is another, as `lend` numbers them.
+fn put_change(book: &mut Book, changed: u64, v: u64) {
+    put(book, CHANGED, changed);
+    put(book, CHANGED_TO, v);
+}
+
+// An order byte, or one byte of the clock of some event, is changed by one, up or down.
+fn draw_change(book: &mut Book) {
+    let p = wrapping_add_u64(draw(book, events(book)), 1);
+    let by = if draw(book, 2) == 0 { 1 } else { 255 };
     if draw(book, 4) == 0 {
-        return wrapping_add_u64(20001, q);
+        let tablet = wrapping_add_u64(tablet_at(book, p), by);
+        put_change(book, wrapping_add_u64(20000, p), tablet);
+        return;
     }
-    let slot = slot_at(book, wrapping_add_u64(q, 1));
-    8 * (slot % 4096) + draw(book, 8) % 8 + 1
+    let j = draw(book, 8) % 8;
+    let number = wrapping_add_u64(entry(clock_at(book, p), j), by);
+    put_change(book, 8 * (slot_at(book, p) % 4096) + j + 1, number);
 }
 
 // One byte of the store is changed by one: what the store's own test says, and all calls where it is not valid.
 pub(crate) fn change_byte(book: &mut Book) {
     lend_sound(book);
-    let changed = draw_byte(book);
-    let by = if draw(book, 2) == 0 { 1 } else { 255 };
-    put(
-        book,
-        CHANGED_TO,
-        wrapping_add_u64(stored_byte(book, changed), by),
-    );
-    put(book, CHANGED, changed);
+    draw_change(book);
     let number = replayed(book);
     refuse(book, faulty_request(CHECK, 0), number);
     if number == 3 {

@@ -18,9 +18,6 @@ use crate::notes::same_word;
 use crate::offers::offer;
 use crate::offers::open;
 use crate::second::follow_number;
-use crate::texts::compare_reading;
-use crate::texts::put_text;
-use crate::texts::read_whole;
 use crate::traces::compare_trace;
 use std::num::wrapping_add_u64;
 
@@ -81,13 +78,6 @@ fn add_chain(book: &mut Book, n: u64, most: u64) {
     }
 }
 
-// The chain as a text.
-fn read_chain(book: &mut Book) {
-    let length = put_text(book, wrapping_add_u64(events(book), 1));
-    let want = read_whole(book);
-    compare_reading(book, length, want);
-}
-
 // "Event 254 is accepted, the next refused 8", of each tablet.
 fn offer_full(book: &mut Book, n: u64) {
     let mut tablet: u64 = 0;
@@ -112,15 +102,13 @@ pub(crate) fn try_one_full(book: &mut Book) {
     };
     refuse_event(book, last, 0);
     offer_full(book, 1);
-    read_chain(book);
     let total = compare_trace(book);
     same(book, FIXED, 255, total);
 }
 
-// A full store, 8 times 254 events: read as a text, some counts, and no event more.
+// A full store, 8 times 254 events: some counts, and no event more.
 pub(crate) fn try_all_full(book: &mut Book) {
     add_chain(book, 8, 2032);
-    read_chain(book);
     lend_sound(book);
     let first = counted(book, 1);
     let last = counted(book, 2032);

@@ -1,9 +1,8 @@
 // The store that is lent to the library. It is laid out anew for each call from the program's own rows, in the order and the
-// slots of document 01, over cells filled with a mark; what accepting and reading leave in it is compared with the rows cell by
-// cell, so the stores that they make and those laid out here are the same. A few cells of the book say what is wrong with the
-// store, where something is to be.
+// slots of document 01, over cells filled with a mark; what accepting leaves in it is compared with the rows cell by cell, so the
+// stores that it makes and those laid out here are the same. A few cells of the book say what is wrong with the store, where
+// something is to be.
 use crate::book::Row;
-use crate::book::TEXT;
 use crate::book::WRITTEN;
 use crate::book::WRITTEN_MOVING;
 use crate::book::add;
@@ -22,19 +21,15 @@ use crate::calls::MOVE;
 use crate::calls::Offered;
 use crate::calls::Request;
 use crate::calls::Said;
-use crate::calls::Told;
 use crate::calls::call;
 use crate::calls::call_accept;
-use crate::calls::call_read;
 use crate::calls::nothing;
 use crate::calls::unoffered;
-use crate::calls::untold;
 use crate::cells::Book;
 use crate::cells::Clocks;
 use crate::cells::Held;
 use crate::cells::Order;
 use crate::cells::Output;
-use crate::cells::Text;
 use crate::cells::byte;
 use crate::cells::cell;
 use crate::cells::entry;
@@ -381,91 +376,6 @@ pub(crate) fn accept_in_store(book: &mut Book, event: Row, may_follow: bool) -> 
     offered
 }
 
-// A text of so many bytes, from the book.
-fn laid_text(book: &Book, length: u64, text: &mut Text) {
-    let mut i: u64 = 0;
-    while i < length {
-        put_letter(text, i, low_byte(cell(book, wrapping_add_u64(TEXT, i))));
-        i += 1;
-    }
-}
-
-fn put_letter(text: &mut Text, i: u64, v: u8) {
-    let at = i as usize;
-    if at < 122880 {
-        text[at] = v;
-    }
-}
-
-fn read_front(
-    text: &[u8],
-    length: u64,
-    clocks: &mut [u8],
-    held: &mut [u16],
-    order: &mut [u8],
-    short: u64,
-) -> Told {
-    let lent = sizes(short);
-    let end = length as usize;
-    let clock_bytes = lent.clocks;
-    let held_numbers = lent.held;
-    let order_bytes = lent.order;
-    if text.len() < end {
-        return untold();
-    }
-    if clocks.len() < clock_bytes {
-        return untold();
-    }
-    if held.len() < held_numbers {
-        return untold();
-    }
-    if order.len() < order_bytes {
-        return untold();
-    }
-    call_read(
-        &text[..end],
-        &mut clocks[..clock_bytes],
-        &mut held[..held_numbers],
-        &mut order[..order_bytes],
-    )
-}
-
-fn read_part(
-    text: &Text,
-    length: u64,
-    clocks: &mut Clocks,
-    held: &mut Held,
-    order: &mut Order,
-    short: u64,
-) -> Told {
-    read_front(text, length, clocks, held, order, short)
-}
-
-// Reads the first bytes of the book's text; what is stored is left aside.
-pub(crate) fn read_text(book: &Book, length: u64) -> Told {
-    let mut text = [0u8; 122880];
-    laid_text(book, length, &mut text);
-    let mut clocks = [MARK; 16288];
-    let mut held = [MARK_WORD; 2036];
-    let mut order = [MARK; 2036];
-    read_part(&text, length, &mut clocks, &mut held, &mut order, 0)
-}
-
-// Reads the first bytes of the book's text into buffers of marks. What the store holds afterwards is the first events of the day
-// that was copied, so many as are wanted, which then are the day.
-pub(crate) fn read_into_store(book: &mut Book, length: u64, last: u64) -> Told {
-    let mut text = [0u8; 122880];
-    laid_text(book, length, &mut text);
-    let mut clocks = [MARK; 16288];
-    let mut held = [MARK_WORD; 2036];
-    let mut order = [MARK; 2036];
-    let short = cell(book, SHORT);
-    let told = read_part(&text, length, &mut clocks, &mut held, &mut order, short);
-    recall(book, last);
-    compare_cells(book, &clocks, &held, &order);
-    told
-}
-
 // The events that a raw store holds, taken in turn from none by the program's own rule: 0, or 3 where one may not follow. The
 // day is then what could be taken.
 fn replay(book: &mut Book, clocks: &Clocks, order: &Order, last: u64) -> u64 {
@@ -487,26 +397,6 @@ fn replay(book: &mut Book, clocks: &Clocks, order: &Order, last: u64) -> u64 {
         p += 1;
     }
     0
-}
-
-// A byte of the store that is lent, as `CHANGED` numbers them.
-pub(crate) fn stored_byte(book: &Book, changed: u64) -> u64 {
-    if 20000 < changed {
-        let mut order = [MARK; 2036];
-        lay_order(book, &mut order);
-        return wide(byte_of(&order, wrapping_sub_u64(changed, 20001)));
-    }
-    let mut clocks = [MARK; 16288];
-    lay_clocks(book, &mut clocks);
-    wide(byte_of_clocks(&clocks, wrapping_sub_u64(changed, 1)))
-}
-
-fn byte_of(order: &Order, i: u64) -> u8 {
-    byte(order, i)
-}
-
-fn byte_of_clocks(clocks: &Clocks, i: u64) -> u8 {
-    byte(clocks, i)
 }
 
 // Whether the store that is lent, with its changed byte, still holds a trace: 0, or 3. The day is as before.

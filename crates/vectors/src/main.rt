@@ -1,8 +1,7 @@
-// Document 01's cases and a second lister, run beside the library and compared. What is printed are counts of what was
+// Document 01's cases of stores and cuts and a second lister, run beside the library and compared. What is printed are counts of what was
 // compared; a difference is printed with its trace, so that the stored output matches only where all agree.
 mod book;
 mod calls;
-mod cases;
 mod cells;
 mod compare;
 mod damaged;
@@ -16,11 +15,9 @@ mod offers;
 mod print;
 mod second;
 mod summary;
-mod texts;
 mod traces;
 
 use book::events;
-use cases::try_cases;
 use cells::Book;
 use cells::put;
 use damaged::change_byte;
@@ -33,12 +30,11 @@ use notes::SEED;
 use offers::offer_drawn;
 use offers::open;
 use summary::say_summary;
-use texts::compare_text;
 use traces::compare_other_order;
 use traces::compare_trace;
 
-// The traces that are drawn: 8 numbers of tablets, 25 times.
-const DRAWN: u64 = 200;
+// The traces that are drawn: 8 numbers of tablets, 30 times.
+const DRAWN: u64 = 240;
 
 // What is refused of a day's store.
 fn try_refusals(book: &mut Book) {
@@ -54,7 +50,6 @@ fn try_trace(book: &mut Book, turn: u64) {
     open(book, turn % 8 + 1);
     offer_drawn(book, turn / 8 % 30, turn / 8 % 5);
     try_refusals(book);
-    compare_text(book);
     compare_trace(book);
     compare_other_order(book);
 }
@@ -75,9 +70,8 @@ fn try_edges(book: &mut Book) {
 }
 
 fn main() {
-    let mut book = [0u64; 200704];
+    let mut book = [0u64; 69632];
     put(&mut book, SEED, 20260);
-    try_cases(&mut book);
     try_edges(&mut book);
     try_traces(&mut book);
     say_summary(&book);

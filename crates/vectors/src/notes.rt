@@ -4,7 +4,6 @@ use crate::cells::Book;
 use crate::cells::cell;
 use crate::cells::put;
 use crate::print::say_difference;
-use crate::print::say_line;
 use crate::print::say_trace;
 use std::num::wrapping_add_u64;
 
@@ -18,8 +17,6 @@ pub(crate) const TRACES: u64 = 2;
 pub(crate) const EVENTS: u64 = 3;
 
 pub(crate) const VECTORS: u64 = 4;
-
-pub(crate) const CASES: u64 = 5;
 
 // The kinds of comparison.
 pub(crate) const OFFERS: u64 = 8;
@@ -44,13 +41,9 @@ pub(crate) const ORDERS: u64 = 17;
 
 pub(crate) const REFUSALS: u64 = 18;
 
-pub(crate) const PIECES: u64 = 19;
+pub(crate) const FIXED: u64 = 19;
 
-pub(crate) const READINGS: u64 = 20;
-
-pub(crate) const FIXED: u64 = 21;
-
-pub(crate) const MOVING: u64 = 22;
+pub(crate) const MOVING: u64 = 20;
 
 // How often each refusal number was expected and given: number r at 32 + r.
 pub(crate) const MET: u64 = 32;
@@ -69,10 +62,9 @@ pub(crate) fn same(book: &mut Book, kind: u64, want: u64, got: u64) {
     }
 }
 
-// The trace that was tried, and how many texts of the input had been begun: behind the first hundred differences.
+// The trace that was tried: behind the first hundred differences.
 fn say_where(book: &Book) {
     if cell(book, DIFFERENCES) < 101 {
-        say_line(b"behind cases=", cell(book, CASES));
         say_trace(book);
     }
 }

@@ -2,7 +2,6 @@
 use crate::cells::Book;
 use crate::cells::cell;
 use crate::notes::ANSWERS;
-use crate::notes::CASES;
 use crate::notes::CELLS;
 use crate::notes::COUNTS;
 use crate::notes::CUTS;
@@ -15,8 +14,6 @@ use crate::notes::MET;
 use crate::notes::MOVING;
 use crate::notes::OFFERS;
 use crate::notes::ORDERS;
-use crate::notes::PIECES;
-use crate::notes::READINGS;
 use crate::notes::REFUSALS;
 use crate::notes::REST;
 use crate::notes::SUMS;
@@ -28,7 +25,6 @@ use crate::print::say_number;
 use std::num::wrapping_add_u64;
 
 fn say_tried(book: &Book) {
-    say_line(b"cases read=", cell(book, CASES));
     say_line(b"traces=", cell(book, TRACES));
     say_line(b"events offered=", cell(book, EVENTS));
     say_line(b"vectors=", cell(book, VECTORS));
@@ -50,8 +46,6 @@ fn say_more(book: &Book) {
     say_line(b"answers=", cell(book, ANSWERS));
     say_line(b"orders=", cell(book, ORDERS));
     say_line(b"refusals=", cell(book, REFUSALS));
-    say_line(b"pieces=", cell(book, PIECES));
-    say_line(b"readings=", cell(book, READINGS));
     say_line(b"fixed=", cell(book, FIXED));
 }
 

@@ -8,7 +8,7 @@ abbrev Inv-loop : tie.InvT-loop
 Inv-loop book₀ turn₀ book turn = Unit {0}
 
 abbrev μ-loop : tie.MeasureT-loop
-μ-loop book₀ turn₀ book turn = 200 - turn
+μ-loop book₀ turn₀ book turn = 240 - turn
 
 loop-holds : tie.Need-loop-holds Inv-loop μ-loop
 loop-holds c = tt

@@ -3,6 +3,8 @@ use borrow.Author.Needs.{needs}
 use Prim.Native.Nat.{_-_}
 use Rattle.vectors.proofs.damaged.refuse_at.Statement.{statement}
 use Rattle.vectors.proofs.damaged.refuse_at.Tie as tie
+use Rattle.vectors.proofs.damaged.faulty_request.Reads as faulty-request-reads
+use Rattle.vectors.proofs.damaged.refuse.Reads as refuse-reads
 
 abbrev Inv-loop : tie.InvT-loop
 Inv-loop book₀ p number call₀ book call = Unit {0}
@@ -28,15 +30,6 @@ loop-less c = search needs
 loop-again : tie.Need-loop-again Inv-loop μ-loop
 loop-again c = tt
 
-wrapping-add-u64-requires : tie.Need-wrapping-add-u64-requires Inv-loop μ-loop
-wrapping-add-u64-requires c κs = tt
-
-faulty-request-requires-2 : tie.Need-faulty-request-requires-2 Inv-loop μ-loop
-faulty-request-requires-2 c κs = tt
-
-refuse-requires-2 : tie.Need-refuse-requires-2 Inv-loop μ-loop
-refuse-requires-2 c κs = tt
-
 returns : tie.Need-returns Inv-loop μ-loop
 returns c = tt
 
@@ -52,7 +45,4 @@ refuse-at-spec =
     add-call
     loop-less
     loop-again
-    wrapping-add-u64-requires
-    faulty-request-requires-2
-    refuse-requires-2
     returns)
