@@ -1,12 +1,16 @@
 -- What the exported calls take, as the values of the model.
 use Prim.Native.Nat.{ℕ}
 use mathlib.Core.List.{List}
+use Rattle.model.specs.declared.Record.{Record}
 use Rattle.model.specs.Store.{Store, storeOf}
 use Rattle.report.specs.Report.{Printed, ReportOutcome}
 
--- a record (n, T) with three lent buffers
+-- a caller's two numbers as a record (n, T), and with three lent buffers
+abbrev pub recordFrom : ℕ → ℕ → Record
+recordFrom tablets events = record { tablets = tablets; events = events }
+
 abbrev pub storeFrom : ℕ → ℕ → List ℕ → List ℕ → List ℕ → Store
-storeFrom tablets events clocks held order = storeOf (record { tablets = tablets; events = events }) clocks held order
+storeFrom tablets events clocks held order = storeOf (recordFrom tablets events) clocks held order
 
 -- of a report: how many bytes are to be printed, and the four lent buffers at exit
 pub record Sent : Type 0 where

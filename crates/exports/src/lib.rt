@@ -8,7 +8,14 @@ ghost use mathlib.Core.Path.{_≡_};
 ghost use Rattle.cuts.specs.Outcomes.{counting};
 ghost use Rattle.cuts.specs.Listing.{listing, fresh};
 ghost use Rattle.report.specs.Report.{reporting};
-ghost use Rattle.exports.specs.Calls.{storeFrom, sent, sentOf};
+ghost use Rattle.exports.specs.Calls.{recordFrom, storeFrom, sent, sentOf};
+
+// What a caller gives beside the buffers, as a record. The calls below test it.
+fn record_from(tablets: u8, events: u16) -> Record
+    ensures { λ r. ⌜ r ≡ recordFrom tablets events ⌝ }
+{
+    Record { tablets, events }
+}
 
 // The number of cuts of an interval, or 0 on a refusal.
 #[no_mangle]
@@ -22,7 +29,7 @@ pub extern "C" fn chongyeori_count(
 ) -> u64
     ensures { λ r. ⌜ r ≡ counting (storeFrom tablets events (now (clocks .entry)) (now (held .entry)) (now (order .entry))) position .count ⌝ }
 {
-    let record = Record { tablets, events };
+    let record = record_from(tablets, events);
     let counted = cuts::count(record, clocks, held, order, Position(position));
     counted.count
 }
@@ -41,7 +48,7 @@ pub extern "C" fn chongyeori_list(
     ensures { λ r. ⌜ r ≡ listing (storeFrom tablets events (now (clocks .entry)) (now (held .entry)) (now (order .entry))) position fresh (now (out .entry)) .count ⌝ }
     ensures { λ _. ⌜ now (out .exit) ≡ listing (storeFrom tablets events (now (clocks .entry)) (now (held .entry)) (now (order .entry))) position fresh (now (out .entry)) .output ⌝ }
 {
-    let record = Record { tablets, events };
+    let record = record_from(tablets, events);
     let place = Place {
         begun: false,
         cut: Cut { counts: [0u8; 8] },
