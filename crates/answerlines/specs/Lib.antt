@@ -1,3 +1,3 @@
--- Document 01, "What cutcheck prints": the lines, and how they stand in an output.
+-- Rules 48 and 49: the lines that the program prints, and how they stand in an output.
 pub mod Printing
 pub mod Outputs

@@ -1,4 +1,4 @@
--- "one line `ask=atleast,K`, `ask=exactly,K` or `ask=all,` and tablets ..., ended by one LF".
+-- Rule 46, the question in the first line of the program's input.
 use Prim.Native.Nat.{ℕ}
 use mathlib.Core.Bool.{cond}
 use mathlib.Core.List.{List, [], _∷_}
@@ -23,7 +23,7 @@ exactlyKey = 97 ∷ 115 ∷ 107 ∷ 61 ∷ 101 ∷ 120 ∷ 97 ∷ 99 ∷ 116 ∷
 abbrev pub allKey : List ℕ
 allKey = 97 ∷ 115 ∷ 107 ∷ 61 ∷ 97 ∷ 108 ∷ 108 ∷ 44 ∷ []
 
--- "K is decimal as in the trace, at most 4,294,967,295"
+-- rules 34 and 39: K, in 32 bits
 abbrev pub amount : List ℕ → List ℕ → Number
 amount key line = number 4294967295 (valueBehind key line)
 
@@ -32,11 +32,11 @@ abbrev pub orAsk : Number → (ℕ → Question) → AskLine → AskLine
 orAsk (Value k) question other = Ask (question k)
 orAsk NoNumber question other = other
 
--- a set asks that all its tablets hold a block; "`ask=all,` without a tablet is a faulty line"
+-- rule 46: a set asks that all its tablets hold a block; a list that names no set is a faulty line
 abbrev pub askSet : Named → AskLine
 askSet set = cond (set .fits) (Ask (All (set .mask))) Faulty
 
--- The three forms. No line has two of the keys, and behind a key that a line lacks stands nothing, which is neither a number
+-- Rule 46, the three forms. No line has two of the keys, and behind a key that a line lacks stands nothing, which is neither a number
 -- nor a list.
 unfoldable pub allForm : List ℕ → AskLine
 allForm line = askSet (namedSet (valueBehind allKey line))
@@ -47,6 +47,6 @@ exactlyForm line = orAsk (amount exactlyKey line) Exactly (allForm line)
 unfoldable pub askOf : List ℕ → AskLine
 askOf line = orAsk (amount atLeastKey line) AtLeast (exactlyForm line)
 
--- the first line of the input; without an LF it is an empty one, and so faulty
+-- rule 46: the first line of the input; without an LF it is an empty one, and so faulty
 unfoldable pub askLine : List ℕ → AskLine
 askLine input = askOf (firstLine input)

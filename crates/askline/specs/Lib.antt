@@ -1,4 +1,4 @@
--- Document 01, "What cutcheck prints": the ask line.
+-- Rule 46, the question.
 pub mod Sets
 pub mod Ask
 pub mod Cases

@@ -1,4 +1,4 @@
--- "`ask=all,` and tablets 1 to 8 strictly rising and parted by commas": the set that such a list names, as a mask.
+-- Rule 46, the set that a list of rising tablets names, as a mask.
 use Prim.Native.Nat.{ℕ, zero, suc, _+_, _-_, _*_}
 use mathlib.Core.Bool.{true, false, cond, _&&_}
 use mathlib.Core.List.{List, [], _∷_}
@@ -28,7 +28,7 @@ naming last mask [] = record { fits = true; mask = mask }
 naming last mask (tablet ∷ rest) =
     cond (ltb last tablet && leb tablet 8) (naming tablet (mask + bit (tablet - 1)) rest) unnamed
 
--- a list of one entry more than it has commas
+-- rule 46: a list of one entry more than it has commas, so one at least: behind nothing there is no set
 unfoldable pub namedSet : List ℕ → Named
 namedSet text =
     cond (listed (suc (commas text)) text .fits) (naming 0 0 (take (suc (commas text)) (listed (suc (commas text)) text .values)))

@@ -33,7 +33,7 @@ module _ (s : Store) (first : ℕ) where
       ∙ omega (arith, joined-bytes k, flat-long next (interval-wide s (first + k)), length-append before next)
 
   -- what the intervals behind the first k add
-  abbrev added : ℕ → ℕ → List (List ℕ)
+  abbrev pub added : ℕ → ℕ → List (List ℕ)
   added k zero = []
   added k (suc d) = added k d ++ interval s (first + (k + d))
 

@@ -1,5 +1,4 @@
--- Document 01, "Listing": "To gather a long list, the caller lends the part of its buffer behind the cuts already written."
--- Gathering lists interval after interval in this way, from a first position to a last.
+-- Rule 31, gathering: interval after interval, each listed behind the cuts already written.
 use Prim.Native.Nat.{ℕ, zero, suc, _+_, _-_, _≤_}
 use mathlib.Core.Bool.{cond}
 use mathlib.Core.List.{List, [], _++_}
@@ -24,7 +23,7 @@ gathered r output =
       position = r .position .0;
     }
 
--- the cuts of k intervals from the first on, one interval behind the other
+-- rule 31: the cuts of k intervals from the first on, one interval behind the other
 abbrev pub joined : Store → ℕ → ℕ → List (List ℕ)
 joined s first zero = []
 joined s first (suc k) = joined s first k ++ interval s (first + k)
@@ -35,7 +34,7 @@ abbrev pub standsIn : Store → ℕ → ℕ → ℕ → ℕ
 standsIn s first zero w = first
 standsIn s first (suc k) w = cond (ltb (length (joined s first (suc k))) w) (first + suc k) (standsIn s first k w)
 
--- all cuts from the first position to the last, as many as fit, as one listing of them; where it stopped is the place behind
+-- rules 29 to 31: all cuts from the first position to the last, as many as fit, as one listing of them; where it stopped is the place behind
 -- the last cut written, in that cut's interval
 abbrev pub gatheredFrom : Store → ℕ → ℕ → List ℕ → GatherOutcome
 gatheredFrom s first more out =
@@ -44,18 +43,18 @@ gatheredFrom s first more out =
       position = standsIn s first more (length (take (room out) (joined s first (suc more))));
     }
 
--- a refusal: nothing is said or written, counts are 0, the position too, and the place is not begun
+-- rule 51, a refusal: nothing is said or written, counts are 0, the position too, and the place is not begun
 abbrev pub refusedGathering : ℕ → List ℕ → GatherOutcome
 refusedGathering number out = record { listing = refusedListing number fresh out; position = 0 }
 
--- of a sound store: 9 for a last position above T or below the first, then 14
+-- rule 53, of a sound store: 9 for a last position above T or below the first, then 14
 abbrev pub gatherIn : Store → ℕ → ℕ → List ℕ → GatherOutcome
 gatherIn s first last out =
     cond (ltb (s .events) last) (refusedGathering 9 out)
     (cond (ltb last first) (refusedGathering 9 out)
     (cond (ltb (length out) 8) (refusedGathering 14 out) (gatheredFrom s first (last - first) out)))
 
--- of any store
+-- rule 53, of any store: 1, 2 and 3 come first
 abbrev pub gathering : Store → ℕ → ℕ → List ℕ → GatherOutcome
 gathering s first last out =
     cond (eqb (storeRefusal s) 0) (gatherIn s first last out) (refusedGathering (storeRefusal s) out)

@@ -1,4 +1,4 @@
--- Document 01, "Listing".
+-- Rules 28 to 30, listing.
 use mathlib.Core.Path.{_≡_}
 use Prim.Native.Nat.{ℕ}
 use mathlib.Core.Bool.{Bool, false, cond, not, _&&_}
@@ -62,11 +62,11 @@ pub record ListedAs (count : ℕ) (place : Place) (later : Bool) (r : Listed) : 
   pub count-is : r .written ≡ count
   pub place-is : r .place ≡ place
 
--- "A refusal changes no buffer and no place ..; returned counts and cuts are 0, and no "done", "more" or "none" is said"
+-- rule 51: what a refusal leaves and gives
 abbrev pub refusedListing : ℕ → Place → List ℕ → ListOutcome
 refusedListing number place out = record { refusal = number; said = nothing; count = 0; place = place; output = out }
 
--- "The answer is the number written and "done" exactly when the interval has no later cut, else "more"."
+-- rules 29 and 30: the outcome where some cuts are still to be listed
 abbrev pub shownFrom : List (List ℕ) → Place → List ℕ → ListOutcome
 shownFrom rest place out =
     record {
@@ -77,25 +77,26 @@ shownFrom rest place out =
       output = written (take (room out) rest) out;
     }
 
--- "Not begun: from the first cut, the place's cut being ignored. Begun: strictly after the place's cut, which must lie in
--- the interval."
+-- rule 28: from the first cut, or behind the place's cut, which has to be one of them
 abbrev pub listOf : List (List ℕ) → Bool → Place → List ℕ → ListOutcome
 listOf cuts inside place out =
     cond (place .begun)
     (cond (not inside) (refusedListing 10 place out) (shownFrom (keep (lexBefore (place .cut .counts)) cuts) place out))
     (shownFrom cuts place out)
 
+-- rule 52, 10: the test of a begun place's cut
+-- rule 52, 10: the test of a begun place's cut
 abbrev pub inInterval : Store → ℕ → List ℕ → Bool
 inInterval s p G = covered (gmin s p) G && consistent (clocksOf s) (gbnd s p) G
 
--- of a sound store: "for listing 9, 14, 10"
+-- rule 53, of a sound store: 9, 14, 10
 abbrev pub listIn : Store → ℕ → Place → List ℕ → ListOutcome
 listIn s p place out =
     cond (ltb (s .events) p) (refusedListing 9 place out)
     (cond (ltb (length out) 8) (refusedListing 14 place out)
     (listOf (interval s p) (inInterval s p (place .cut .counts)) place out))
 
--- of any store
+-- rule 53, of any store: 1, 2 and 3 come first
 abbrev pub listing : Store → ℕ → Place → List ℕ → ListOutcome
 listing s p place out =
     cond (eqb (storeRefusal s) 0) (listIn s p place out) (refusedListing (storeRefusal s) place out)

@@ -44,18 +44,18 @@ pub record CountOutcome : Type 0 where
 abbrev pub counted : Counted → CountOutcome
 counted c = record { refusal = verdictNumber (c .verdict); count = c .count }
 
--- of a sound store: "counting 9, 11"
+-- rules 32 and 53, of a sound store: 9, 11
 abbrev pub countIn : Store → ℕ → CountOutcome
 countIn s p =
     cond (ltb (s .events) p) (record { refusal = 9; count = 0 })
     (cond (fits64 (length (interval s p))) (record { refusal = 0; count = length (interval s p) })
     (record { refusal = 11; count = 0 }))
 
--- of any store: 1, 2 and 3 come first; "returned counts and cuts are 0"
+-- rules 51 and 53, of any store: 1, 2 and 3 come first, with a count of 0
 abbrev pub counting : Store → ℕ → CountOutcome
 counting s p = cond (eqb (storeRefusal s) 0) (countIn s p) (record { refusal = storeRefusal s; count = 0 })
 
--- Asking: the refusal's number, 0 for none; whether a cut was found; and the cut. "no .. "none" is said" with a refusal.
+-- Asking: the refusal's number, 0 for none; whether a cut was found; and the cut. With a refusal "none" is not said.
 pub record AskOutcome : Type 0 where
   pub refusal : ℕ
   pub found : Bool
@@ -74,11 +74,11 @@ answerFound (Refused why) = false
 abbrev pub asked : Asked → AskOutcome
 asked a = record { refusal = answerNumber (a .answer); found = answerFound (a .answer); cut = a .cut .counts }
 
--- a refusal: no cut found, the cut of all zeros
+-- rule 51: a refusal finds no cut and gives zeros
 abbrev pub refusedAsking : ℕ → AskOutcome
 refusedAsking number = record { refusal = number; found = false; cut = zeros }
 
--- "9: no such position"
+-- rule 52, 9
 abbrev pub rangeKnown : Store → Range → Bool
 rangeKnown s (Interval p) = leb (p .0) (s .events)
 rangeKnown s Whole = true
@@ -94,14 +94,14 @@ pub record IntervalRead (r : Record) (clocks order : List ℕ) (position : Posit
   pub read : RangeRead r clocks order (Interval position) known low high
   pub bounds : known ≡ true → IntervalSpan clocks order (position .0) low high
 
--- of a sound store: "asking 9, 13"
+-- rules 36 and 53, of a sound store: 9, 13
 abbrev pub askIn : Store → Job → AskOutcome
 askIn s job =
     cond (not (rangeKnown s (job .range))) (refusedAsking 9)
     (cond (not (questionFits (s .tablets) (job .question))) (refusedAsking 13)
     (record { refusal = 0; found = answer s job .found; cut = answer s job .cut }))
 
--- of any store
+-- rule 53, of any store: 1, 2 and 3 come first
 abbrev pub asking : Store → Job → AskOutcome
 asking s job =
     cond (eqb (storeRefusal s) 0) (askIn s job) (refusedAsking (storeRefusal s))

@@ -1,5 +1,5 @@
 // Consistent cuts of a stored trace: listing, counting, asking, gathering.
-// Each public call tests the store before all else and refuses by document 01's number; what it answers is fixed by its
+// Each public call tests the store before all else and refuses by the numbers of rule 52; what it answers is fixed by its
 // contract for all inputs.
 mod gatherer;
 pub mod inner;

@@ -95,15 +95,11 @@ module _ (s : Store) (snd : Sound s) where
   unfolding total
   joined-long = joined-count (suc (s .events)) ∙ counts-add-up s snd
 
--- gathering from 0 to T into an output with room for every cut
-module _ (s : Store) (none : storeRefusal s ≡ 0) (out : List ℕ) (fits : 8 ≤ length out) where
-  pub gathers : gathering s 0 (s .events) out ≡ gatheredFrom s 0 (s .events) out
-  gathers =
-      when-zero (storeRefusal s) (gatherIn s 0 (s .events) out) (refusedGathering (storeRefusal s) out) none
-      ∙ simp (le-ltb (s .events) (s .events) (omega arith), le-ltb (s .events) 0 (omega arith), le-ltb (length out) 8 fits) (ap (λ (m : ℕ). gatheredFrom s 0 m out) all)
-    where
-      all : s .events - 0 ≡ s .events
-      all = omega arith
+-- gathering of a sound store, where neither 9 nor 14 applies
+pub gathers : (s : Store) → storeRefusal s ≡ 0 → (first last : ℕ) → first ≤ last → last ≤ s .events → (out : List ℕ) → 8 ≤ length out → gathering s first last out ≡ gatheredFrom s first (last - first) out
+gathers s none first last rising within out fits =
+    when-zero (storeRefusal s) (gatherIn s first last out) (refusedGathering (storeRefusal s) out) none
+    ∙ simp (le-ltb (s .events) last within, le-ltb last first rising, le-ltb (length out) 8 fits) refl
 
 -- what the calls of counting give, where none refuses
 module _ (s : Store) (none : storeRefusal s ≡ 0) where

@@ -61,11 +61,11 @@ module _ (s : Store) (p : ℕ) where
       wide-behind (f .before) (behindPlace s p place) (subst Wide (f .parts) (interval-wide s p))
 
   -- behind the first n of what is to be listed stands the rest of it, and the place there is one of the interval's cuts
-  record After (place : Place) (n : ℕ) : Type 0 where
-    left : behindPlace s p (behindAll place (take n (behindPlace s p place))) ≡ drop n (behindPlace s p place)
-    again : Listable s p (behindAll place (take n (behindPlace s p place)))
+  pub record After (place : Place) (n : ℕ) : Type 0 where
+    pub left : behindPlace s p (behindAll place (take n (behindPlace s p place))) ≡ drop n (behindPlace s p place)
+    pub again : Listable s p (behindAll place (take n (behindPlace s p place)))
 
-  after : (place : Place) → Listable s p place → (n : ℕ) → 1 ≤ n → After place n
+  pub after : (place : Place) → Listable s p place → (n : ℕ) → 1 ≤ n → After place n
   after place ok n some = by-rest (behindPlace s p place) refl
     where
       by-rest : (rest : List (List ℕ)) → behindPlace s p place ≡ rest → After place n

@@ -2,5 +2,6 @@
 pub mod Rising
 pub mod Going
 pub mod Gathered
+pub mod Stopping
 pub mod Prefix
 pub mod Theorems

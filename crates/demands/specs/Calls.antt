@@ -1,5 +1,6 @@
 -- Calls one after the other: what stands behind a place, what listing calls write together, and lists without repeats.
 use mathlib.Core.Path.{_≡_}
+use mathlib.Core.Logic.{_↔_}
 use Prim.Native.Nat.{ℕ, _+_, _*_, _≤_}
 use mathlib.Core.Bool.{true, cond}
 use mathlib.Core.List.{List, [], _∷_, _++_, List·Memᴰ}
@@ -8,18 +9,18 @@ use Rattle.model.specs.declared.Place.{Place}
 use Rattle.model.specs.Lists.{keep}
 use Rattle.model.specs.Lexical.{lexBefore}
 use Rattle.model.specs.Store.{Store}
-use Rattle.model.specs.Cuts.{interval}
+use Rattle.model.specs.Cuts.{interval, allCuts}
 use Rattle.cuts.specs.Listing.{room, Said, ListOutcome, listing}
 
--- a place from which an interval can be listed: not begun, or begun at one of its cuts
+-- rule 28: a place from which an interval can be listed: not begun, or begun at one of its cuts
 abbrev pub Listable : Store → ℕ → Place → Type 0
 Listable s p place = place .begun ≡ true → List·Memᴰ (place .cut .counts) (interval s p)
 
--- the cuts that are still to be listed from a place on
+-- rule 28: the cuts that are still to be listed from a place on
 abbrev pub behindPlace : Store → ℕ → Place → List (List ℕ)
 behindPlace s p place = cond (place .begun) (keep (lexBefore (place .cut .counts)) (interval s p)) (interval s p)
 
--- the bytes that a listing call has written to the front of its output
+-- rule 29: the bytes that a listing call has written to the front of its output
 abbrev pub front : ListOutcome → List ℕ
 front o = take (8 * o .count) (o .output)
 
@@ -46,3 +47,8 @@ rooms (out ∷ outs) = room out + rooms outs
 abbrev pub NoneTwice : List (List ℕ) → Type 0
 NoneTwice [] = Unit {0}
 NoneTwice (G ∷ Gs) = (List·Memᴰ G Gs → ⊥) × NoneTwice Gs
+
+-- rules 25 and 31: the consistent cuts of a trace and no other, none twice
+pub record EachOnce (s : Store) (cuts : List (List ℕ)) : Type 0 where
+  pub members : (G : List ℕ) → List·Memᴰ G cuts ↔ List·Memᴰ G (allCuts s)
+  pub none-twice : NoneTwice cuts

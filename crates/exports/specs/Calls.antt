@@ -5,7 +5,7 @@ use Rattle.model.specs.declared.Record.{Record}
 use Rattle.model.specs.Store.{Store, storeOf}
 use Rattle.report.specs.Report.{Printed, ReportOutcome}
 
--- a caller's two numbers as a record (n, T), and with three lent buffers
+-- rule 7: a caller's two numbers as a record, and with three lent buffers
 abbrev pub recordFrom : ℕ → ℕ → Record
 recordFrom tablets events = record { tablets = tablets; events = events }
 

@@ -17,7 +17,7 @@ fn record_from(tablets: u8, events: u16) -> Record
     Record { tablets, events }
 }
 
-// The number of cuts of an interval, or 0 on a refusal.
+// How many cuts an interval has; 0 on a refusal.
 #[no_mangle]
 pub extern "C" fn chongyeori_count(
     tablets: u8,

@@ -1,5 +1,4 @@
--- "Key=value lines .., each ended by one LF, no blanks"; "Each key is matched against its fixed bytes, and the value is the
--- part of that line behind the equals sign."
+-- Rule 37, lines and their keys.
 use Prim.Native.Nat.{ℕ, suc, _+_}
 use mathlib.Core.Bool.{Bool, true, false, cond, _&&_}
 use mathlib.Core.List.{List, [], _∷_}
@@ -22,7 +21,7 @@ before byte text = take (find byte text) text
 abbrev pub behind : ℕ → List ℕ → List ℕ
 behind byte text = drop (find byte text + 1) text
 
--- the first line, without its LF (byte 10). Bytes without an LF are no line: they are read as an empty one, which no key fits.
+-- rules 37 and 42: the first line, without its LF (byte 10). Bytes without an LF are no line: they are read as an empty one, which no key fits.
 unfoldable pub lineLength : List ℕ → ℕ
 lineLength text = cond (found 10 text) (find 10 text) 0
 
@@ -38,6 +37,6 @@ startsWith [] line = true
 startsWith (k ∷ ks) [] = false
 startsWith (k ∷ ks) (b ∷ bs) = eqb b k && startsWith ks bs
 
--- the part of a line behind its key. A line without the key has the empty part, which is neither a number nor a list.
+-- rule 37: the part of a line behind its key. A line without the key has the empty part, which is neither a number nor a list.
 unfoldable pub valueBehind : List ℕ → List ℕ → List ℕ
 valueBehind key line = cond (startsWith key line) (drop (length key) line) []

@@ -1,4 +1,4 @@
--- "`clock` has exactly n entries"; "clock entries above 255 .. are faulty": numbers parted by commas.
+-- Rules 39 and 40, lists of numbers parted by commas.
 use Prim.Native.Nat.{ℕ, zero, suc}
 use mathlib.Core.Bool.{true, false, cond}
 use mathlib.Core.List.{List, [], _∷_, _++_}
@@ -26,7 +26,7 @@ withEntry Faulty rest = none
 withEntry (Value v) none = none
 withEntry (Value v) (some vs) = some (v ∷ vs)
 
--- exactly so many numbers up to 255, parted by commas (byte 44); no list is empty
+-- rules 39 and 40: exactly so many numbers up to 255, parted by commas (byte 44); no list is empty
 abbrev pub entries : ℕ → List ℕ → Option (List ℕ)
 entries zero text = none
 entries (suc zero) text = withEntry (number 255 text) (some [])

@@ -1,4 +1,4 @@
--- "Numbers are decimal without a leading zero (0 is `0`)."
+-- Rule 39, numbers in decimal digits.
 use Prim.Native.Nat.{ℕ, zero, suc, _+_, _-_, _*_, _/_, _%_}
 use mathlib.Core.Bool.{Bool, true, false, cond, not, _&&_}
 use mathlib.Core.List.{List, [], _∷_, _++_}
@@ -17,7 +17,7 @@ decimalFrom (suc steps) n =
 unfoldable pub decimal : ℕ → List ℕ
 decimal n = decimalFrom n n
 
--- some bytes, and more than one only without a leading `0`
+-- rule 39: some bytes, and more than one only without a `0` in front
 unfoldable pub plain : List ℕ → Bool
 plain text =
     cond (eqb (length text) 0) false (cond (eqb (length text) 1) true (not (eqb (getD text 0 0) 48)))
@@ -35,7 +35,7 @@ abbrev pub valueFrom : ℕ → List ℕ → ℕ
 valueFrom sum [] = sum
 valueFrom sum (b ∷ bs) = valueFrom (10 * sum + (b - 48)) bs
 
--- "above 255 .., above 65,535 .. are faulty": a value up to a limit
+-- rule 40: a value up to a limit
 abbrev pub upTo : ℕ → ℕ → Number
 upTo limit v = cond (leb v limit) (Value v) Faulty
 

@@ -1,4 +1,4 @@
-// The text reader: it stands over the caller's bytes and keeps its offset and line. Only two functions take or give one,
+// The text reader: a text where it lies, and how far it has been read, in bytes and in lines. Only two functions take or give one,
 // since each is proved by hand: a reader is made and moved on. What it looks at is read by functions over plain slices.
 ghost use mathlib.Core.Path.{_≡_};
 

@@ -99,7 +99,7 @@ module _ (s : Store) (snd : Sound s) (full : Full s) (e : Event) (long : length 
       let k : f .number ≡ tally (s .order) (s .events) own + 1 = ap (λ (x : EventName). x .number) same in
       omega (arith, c .last, ap (at (talliesOf s)) t, at-tallies (s .order) (s .events) own own-fits)
 
-  -- "every other place is untouched": the first T events are as they were
+  -- rule 11: the first T events are as they were
   pub accepted-agrees : AgreeTo (s .events) s (accepted s e)
   unfolding accepted
   accepted-agrees =

@@ -60,7 +60,7 @@ range-same clk other low high agree =
     keep-same (λ G. covered low G && consistent clk high G) (λ G. covered low G && consistent other high G) (box high)
     (λ G m. ap (λ (b : Bool). covered low G && b) (consistent-same clk other high G agree))
 
--- Theorem 7: "two valid orders of the same events give the same cuts and total"
+-- Theorem 7 (rule 26)
 pub same-cuts : (s r : Store) → SameEvents s r → allCuts s ≡ allCuts r
 unfolding allCuts
 same-cuts s r same =
@@ -124,7 +124,7 @@ module _ (s r : Store) (snd : Sound s) where
       agree .clocks (eventAt (s .order) q) (event-contained s snd q h)
       ∙ ap (clockOf (clocksOf r)) (event-same (s .order) (r .order) q (agree .order))
 
-  -- Theorem 8: "What is answered for interval p depends on n and on the first p events alone"
+  -- Theorem 8 (rule 27)
   pub interval-same : (p : ℕ) → p ≤ s .events → AgreeTo p s r → interval s p ≡ interval r p
   unfolding interval
   interval-same p h agree =

@@ -16,7 +16,7 @@ use Rattle.model.proofs.Refusals.{or-else-next}
 use Rattle.model.proofs.Tests.{holds, from-true, allBelow-at, allBelow-all}
 use Rattle.model.proofs.Entries.{AtMost, covered-at-most, at-most-covered}
 
--- "An event of tablet i with clock V may follow when, with the tallies before it, .."
+-- rules 13 to 16 as statements
 pub record Follows (n : ℕ) (clk : Clocks) (tal : List ℕ) (i : ℕ) (clock : List ℕ) : Type 0 where
   pub positive : 1 ≤ i
   pub listed : i ≤ n

@@ -65,7 +65,7 @@ module _ (clk : Clocks) (tal : List ℕ) (causal : Causal clk tal) where
           (λ equal. absurd (differ (λ i. record { column = same i; number = equal i })))
           (λ n. earlier same (ce .first) (omega arith))
 
-  -- Theorem 3: happened-before holds of e and a different f exactly when e's clock is at most f's in each entry ..
+  -- Theorem 3 (rule 19) ..
   pub happened-before-clocks : (e f : EventName) → Contains tal e → Contains tal f → e ≢ f → HappenedBefore clk e f ↔ AtMost (clockOf clk e) (clockOf clk f)
   happened-before-clocks e f ce cf differ = (λ h. past e f cf h .clocks, before-of-clocks e f ce cf differ)
 

@@ -17,7 +17,7 @@ use Rattle.model.proofs.Causal.{closed-has}
 use Rattle.model.proofs.Valid.{at-tallies, length-tallies, tally-own, tally-other, tally-mono, tallies-grow}
 use Rattle.model.proofs.Sound.{Sound, causal-at, follows-at, index-fits}
 
--- "interval 0 holds the empty cut and nothing else"
+-- rule 24
 pub interval-zero : (s : Store) → interval s 0 ≡ zeros ∷ []
 unfolding interval cutsBetween consistent closed covered tallies eight zeros
 interval-zero s = refl
@@ -99,7 +99,7 @@ module _ (s : Store) (snd : Sound s) where
         }),
   )
 
-  -- the same in document 01's own words: the consistent cuts G with Gmin <= G <= Gbnd in each entry
+  -- the same in rule 23's words: consistent with regard to the final tallies, and between Gmin and Gbnd
   pub interval-literal : (p : ℕ) → p ≤ s .events → (G : List ℕ) → length G ≡ 8 → List·Memᴰ G (interval s p) ↔ (Consistent (clocksOf s) (talliesOf s) G × AtMost (gmin s p) G × AtMost G (gbnd s p))
   unfolding interval
   interval-literal p h G long = (

@@ -1,5 +1,4 @@
--- Theorem 6: the counts of intervals 0 to T add up to the number of consistent cuts, and each consistent cut is in exactly
--- one interval.
+-- Theorem 6 (rule 25): each consistent cut is in exactly one interval, and so their counts are all of them.
 use mathlib.Core.Path.{_≡_, sym, ap, _∙_, subst}
 use mathlib.Core.Logic.{_≢_, _⊎_, inl, inr, ⊎-elim, by-cases}
 use mathlib.Core.Bool.{Bool, not, _&&_}
@@ -141,7 +140,7 @@ module _ (s : Store) (snd : Sound s) where
   sum-to zero h = omega (arith, ap length (cuts-at-zero s))
   sum-to (suc p) h = omega (arith, sum-to p (omega arith), one-more s snd p h)
 
-  -- Theorem 6, the counts: "The counts of the empty cut and of all intervals add up to the number of consistent cuts"
+  -- Theorem 6, the counts (rule 25)
   pub counts-add-up : total s ≡ length (allCuts s)
   unfolding total allCuts cutsTo
   counts-add-up = sum-to (s .events) (omega arith)
@@ -159,7 +158,7 @@ module _ (s : Store) (snd : Sound s) where
   apart p (suc q) less hq G m n =
       later-outside s snd p G (interval-high s snd p G m) q (omega arith) hq (interval-has s snd q hq G n)
 
-  -- Theorem 6, the cuts: "each consistent cut is in one interval only"
+  -- Theorem 6, the cuts (rule 25)
   pub in-one-interval : (G : List ℕ) → List·Memᴰ G (allCuts s) → (p : ℕ) × (p ≤ s .events) × List·Memᴰ G (interval s p) × ((q : ℕ) → q ≤ s .events → List·Memᴰ G (interval s q) → q ≡ p)
   unfolding allCuts cutsTo
   in-one-interval G m =

@@ -77,8 +77,8 @@ module _ (s : Store) (width : T (tabletsFit (s .tablets))) (ok : T (valid s)) wh
       at-most-covered (clockOf (clocksOf s) e) (clockOf (clocksOf s) f)
       (knows-all (clocksOf s) (talliesOf s) now e f cf column first known)
 
-  -- 3. Happened-before holds of e and a different f exactly when e's clock is at most f's in each entry; it is a strict
-  -- order (transitive by definition); on one tablet it is the tablet's order.
+  -- 3. Rule 19: happened-before can be told by the clocks. It is a strict order (transitive by definition), and on one
+  -- tablet it is the tablet's order.
   pub happened-before-by-clocks : (e f : EventName) → Contains (talliesOf s) e → Contains (talliesOf s) f → e ≢ f → HappenedBefore (clocksOf s) e f ↔ T (covered (clockOf (clocksOf s) e) (clockOf (clocksOf s) f))
   happened-before-by-clocks e f ce cf differ =
       let iff = happened-before-clocks (clocksOf s) (talliesOf s) now e f ce cf differ in (
@@ -103,8 +103,8 @@ module _ (s : Store) (width : T (tabletsFit (s .tablets))) (ok : T (valid s)) wh
         λ shut. holds-consistent (clocksOf s) (talliesOf s) G (iff .1 shut),
       )
 
-  -- 5. Interval p holds the consistent cuts G with Gmin <= G <= Gbnd in each entry: those that contain the event at p and
-  -- no event accepted after it. The event at position p = q + 1 is `eventAt order q`. Interval 0 holds the empty cut alone.
+  -- 5. Rules 23 and 24: interval p has the consistent cuts between its bounds, which are those that contain the event at p and
+  -- no event accepted after it. The event at position p = q + 1 is `eventAt order q`. Interval 0 has the empty cut alone.
   pub interval-is-between : (p : ℕ) → p ≤ s .events → (G : List ℕ) → length G ≡ 8 → List·Memᴰ G (interval s p) ↔ (T (consistent (clocksOf s) (talliesOf s) G) × T (covered (gmin s p) G) × T (covered G (gbnd s p)))
   interval-is-between p h G long =
       let iff = interval-literal s snd p h G long in (
@@ -140,7 +140,7 @@ module _ (s : Store) (width : T (tabletsFit (s .tablets))) (ok : T (valid s)) wh
   pub empty-cut-consistent : T (consistent (clocksOf s) (talliesOf s) zeros)
   empty-cut-consistent = holds-consistent (clocksOf s) (talliesOf s) zeros (zeros-consistent (clocksOf s) (talliesOf s))
 
-  -- 6. Demand 3: the counts of intervals 0 to T add up to the number of consistent cuts found by testing every vector up
+  -- 6. Rule 25: the sum of the intervals' counts is the number of consistent cuts found by testing every vector up
   -- to the tallies, and every consistent cut is in exactly one interval.
   pub counts-are-the-total : total s ≡ length (allCuts s)
   counts-are-the-total = counts-add-up s snd
@@ -148,7 +148,7 @@ module _ (s : Store) (width : T (tabletsFit (s .tablets))) (ok : T (valid s)) wh
   pub each-in-one-interval : (G : List ℕ) → List·Memᴰ G (allCuts s) → (p : ℕ) × (p ≤ s .events) × List·Memᴰ G (interval s p) × ((q : ℕ) → q ≤ s .events → List·Memᴰ G (interval s q) → q ≡ p)
   each-in-one-interval G m = in-one-interval s snd G m
 
-  -- 7. Demand 3: two valid orders of the same events have the same list of cuts and the same total.
+  -- 7. Rule 26: the order in which the same events were accepted changes neither the list of cuts nor the total.
   pub orders-agree : (r : Store) → T (tabletsFit (r .tablets)) → T (valid r) → SameEvents s r → (allCuts s ≡ allCuts r) × (total s ≡ total r)
   orders-agree r w v same = (same-cuts s r same, same-total s r snd (sound r w v) same)
 

@@ -1,4 +1,4 @@
--- The starred cases of document 01, "Traces to check against", as one table of tests on stores with full-size buffers.
+-- The starred cases of document 01 as one table of tests on stores with full-size buffers.
 use Prim.Native.Nat.{ℕ, suc}
 use mathlib.Core.Bool.{Bool, true, false, not, _&&_}
 use mathlib.Core.List.{List, [], _∷_, map}
@@ -15,11 +15,11 @@ use Rattle.model.specs.Store.{Store, storeOf, freshRecord, clocksOf, tal
 use Rattle.model.specs.Cuts.{consistent, interval, allCuts, total}
 use Rattle.model.specs.Questions.{meets, Witness, answer}
 
--- a cut or clock as document 01 writes it, without the zeros behind
+-- a cut or clock written without the zeros behind
 abbrev pub wide : List ℕ → List ℕ
 wide entries = eight (at entries)
 
--- "tablet/clock/held"
+-- tablet, clock and held value
 abbrev pub event : ℕ → List ℕ → ℕ → Event
 event tablet clock held = record { tablet = record { 0 = tablet }; clock = wide clock; held = held }
 
@@ -66,7 +66,7 @@ found w G = w .found && same (w .cut) (wide G)
 abbrev pub none : Witness → Bool
 none w = not (w .found) && same (w .cut) (wide [])
 
--- "Trace A, in order tablet/clock/held: 1/1,0/1; 2/0,1/0; 1/2,0/0; 2/2,2/1. Trace B: 1/1,0/1; 1/2,0/0; 2/0,1/1; 2/0,2/0."
+-- the events of trace A, and then its two orders and trace B
 abbrev pub a1 : Event
 a1 = event 1 (1 ∷ 0 ∷ []) 1
 
@@ -107,36 +107,36 @@ noPrefix s q =
 
 abbrev pub table : List Bool
 table =
-    -- A: cuts 0,0 0,1 1,0 1,1 2,0 2,1 2,2; intervals 1,1,2,2,1.
+    -- A in its own order
     sound traceA
     ∷ sameCuts (allCuts traceA) cutsOfA
     ∷ same (counts traceA) (1 ∷ 1 ∷ 2 ∷ 2 ∷ 1 ∷ [])
     ∷ eqb (total traceA) 7
-    -- A's events in tablet order 1,1,2,2: intervals 1,1,1,3,1.
+    -- A's events, tablet 1's first
     ∷ sound traceA-by-tablet
     ∷ sameCuts (allCuts traceA-by-tablet) cutsOfA
     ∷ same (counts traceA-by-tablet) (1 ∷ 1 ∷ 1 ∷ 3 ∷ 1 ∷ [])
-    -- A: 0,2 and 1,2 are not consistent.
+    -- two cuts that A does not allow
     ∷ not (consistent (clocksOf traceA) (talliesOf traceA) (wide (0 ∷ 2 ∷ [])))
     ∷ not (consistent (clocksOf traceA) (talliesOf traceA) (wide (1 ∷ 2 ∷ [])))
-    -- A: at least 2, none; exactly 0 gives 0,0; set {2} gives 2,2.
+    -- one question of each kind to A
     ∷ none (asked traceA (AtLeast 2))
     ∷ found (asked traceA (Exactly 0)) (0 ∷ 0 ∷ [])
     ∷ found (asked traceA (All 2)) (2 ∷ 2 ∷ [])
-    -- B: 9 cuts; at least 2 gives 1,1, though no prefix of B's own order has it.
+    -- B: a double holding that no prefix of its own order shows
     ∷ sound traceB
     ∷ eqb (length (allCuts traceB)) 9
     ∷ found (asked traceB (AtLeast 2)) (1 ∷ 1 ∷ [])
     ∷ noPrefix traceB (AtLeast 2)
-    -- n=3, no events: one cut; at least 1, none.
+    -- three tablets and no event
     ∷ sound quiet
     ∷ eqb (length (allCuts quiet)) 1
     ∷ none (asked quiet (AtLeast 1))
-    -- After A's first two, 2/2,2 is refused 6. After A's first, 1/3,0 and 1/1,0 are refused 5.
+    -- refusals 6 and 5 along A
     ∷ eqb (offered (day 2 (a1 ∷ a2 ∷ [])) (event 2 (2 ∷ 2 ∷ []) 1)) 6
     ∷ eqb (offered (day 2 (a1 ∷ [])) (event 1 (3 ∷ 0 ∷ []) 0)) 5
     ∷ eqb (offered (day 2 (a1 ∷ [])) (event 1 (1 ∷ 0 ∷ []) 0)) 5
-    -- n=3 after 1/1,0,0 and 2/1,1,0: 3/0,1,1 is refused 7, as is 2/0,2,0; 3/1,1,1 is accepted.
+    -- refusal 7 behind a handover, and what covers it
     ∷ sound handover
     ∷ eqb (offered handover (event 3 (0 ∷ 1 ∷ 1 ∷ []) 0)) 7
     ∷ eqb (offered handover (event 2 (0 ∷ 2 ∷ 0 ∷ []) 0)) 7
@@ -147,8 +147,8 @@ abbrev pub passed : List Bool → Bool
 passed [] = true
 passed (test ∷ tests) = test && passed tests
 
--- Not starred: the layout of "The store" with its numbers written out, since reading and writing share one definition of
--- it; and the order of the refusals of a full tablet, "4, 8, 5".
+-- Not starred: the layout of rules 8 and 9 with its numbers written out, since reading and writing share one definition of
+-- it; and that a full tablet is 8 before 5, and 4 before 8.
 abbrev pub layout : List Bool
 layout =
     same (take 8 (drop 0 (traceA .clocks))) (wide (1 ∷ 0 ∷ []))
@@ -159,5 +159,5 @@ layout =
     ∷ eqb (at (traceA .held) 255) 1
     ∷ same (take 5 (traceA .order)) (1 ∷ 2 ∷ 1 ∷ 2 ∷ 0 ∷ [])
     ∷ eqb (followRefusal 2 (clocksOf quiet) (254 ∷ 0 ∷ []) 1 (1 ∷ 0 ∷ [])) 8
-    ∷ eqb (followRefusal 2 (clocksOf quiet) (254 ∷ 0 ∷ []) 3 (1 ∷ 0 ∷ [])) 4
+    ∷ eqb (followRefusal 2 (clocksOf quiet) (254 ∷ 0 ∷ []) 0 (1 ∷ 0 ∷ [])) 4
     ∷ []

@@ -1,4 +1,4 @@
--- Document 01, "The store": the clock of an event, and when one list of entries covers another.
+-- The clock of an event, and when one list of entries covers another.
 use Prim.Native.Nat.{ℕ, zero, suc, _*_}
 use mathlib.Core.Bool.{Bool}
 use mathlib.Core.List.{List}
@@ -7,7 +7,7 @@ use lib.ListN.{take, drop}
 use Rattle.model.specs.Lists.{at, zeros, allBelow}
 use Rattle.model.specs.Numbers.{slot}
 
--- an event by the column of its tablet and its number there, from 1
+-- rule 2: an event, by the column of its tablet and its number there, from 1
 pub record EventName : Type 0 where
   pub column : ℕ
   pub number : ℕ
@@ -19,18 +19,18 @@ Clocks = ℕ → ℕ → List ℕ
 abbrev pub clockOf : Clocks → EventName → List ℕ
 clockOf clk e = clk (e .column) (e .number)
 
--- "clocks: 16,256 bytes; slot s at bytes 8s to 8s+7."
+-- rules 4 and 8: the clock that lies at a slot, eight entries, tablet 1's first
 unfoldable pub clockIn : List ℕ → ℕ → List ℕ
 clockIn bytes s = take 8 (drop (8 * s) bytes)
 
 abbrev pub clockAt : List ℕ → Clocks
 clockAt bytes j k = clockIn bytes (slot j k)
 
--- "at most .. in each entry": U is at most W in each of the eight entries
+-- rules 16, 19, 21: U is at most W in each of the eight entries
 unfoldable pub covered : List ℕ → List ℕ → Bool
 covered U W = allBelow 8 (λ j. leb (at U j) (at W j))
 
--- what is known at event k of tablet j: its clock; where there is no event yet (k is 0), nothing
+-- rule 16: what is known at event k of tablet j: its clock; where there is no event yet (k is 0), nothing
 abbrev pub known : Clocks → Clocks
 known clk j zero = zeros
 known clk j (suc k) = clk j (suc k)

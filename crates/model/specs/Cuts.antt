@@ -1,4 +1,4 @@
--- Document 01, "Cuts and intervals". A cut is its list of eight entries.
+-- Cuts and intervals. A cut is a list of eight entries here.
 use mathlib.Core.Path.{_≡_}
 use Prim.Native.Nat.{ℕ, zero, suc, _≤_, _<_}
 use mathlib.Core.Bool.{Bool, _&&_}
@@ -11,18 +11,17 @@ use Rattle.model.specs.Clocks.{Clocks, EventName, clockOf, covered, know
 use Rattle.model.specs.Follow.{eventAt, tallies}
 use Rattle.model.specs.Store.{Store, clocksOf, talliesOf}
 
--- "Entry G[i] means events 1 to G[i] of tablet i": the cut G contains event e. The events of a trace are those that its
--- tallies contain.
+-- rule 20: the cut G contains event e. The events of a trace are those that its tallies contain.
 pub record Contains (G : List ℕ) (e : EventName) : Type 0 where
   pub column : e .column < 8
   pub first : 1 ≤ e .number
   pub last : e .number ≤ at G (e .column)
 
--- "for each i with G[i] > 0, the clock of event G[i] of tablet i is at most G in each entry"
+-- rule 21: what the last event of each tablet in the cut knows is in the cut
 unfoldable pub closed : Clocks → List ℕ → Bool
 closed clk G = allBelow 8 (λ j. covered (known clk j (at G j)) G)
 
--- "G is consistent when each G[i] is at most the tally and, .." (above)
+-- rule 21: no more events than the tallies have, and closed
 unfoldable pub consistent : Clocks → List ℕ → List ℕ → Bool
 consistent clk tal G = covered G tal && closed clk G
 
@@ -35,18 +34,18 @@ abbrev pub box : List ℕ → List (List ℕ)
 box [] = [] ∷ []
 box (b ∷ bs) = rows b (box bs)
 
--- a vector within a bound: as long, and at most it in each entry
+-- rule 6: a vector within a bound: as long, and at most it in each entry (so 0 above n, where the tallies are)
 pub record Within (bound G : List ℕ) : Type 0 where
   pub long : length G ≡ length bound
   pub most : (j : ℕ) → j < length bound → at G j ≤ at bound j
 
 -- the consistent cuts G with low <= G <= high in each entry, lexically rising. `consistent clk high G` says both that G is
--- at most high and that it is closed; to test against high where document 01 tests against the final tallies comes to the
--- same (theorem 5).
+-- at most high and that it is closed; to test against high where rule 23 tests against the final tallies comes to the same
+-- (theorem 5).
 unfoldable pub cutsBetween : Clocks → List ℕ → List ℕ → List (List ℕ)
 cutsBetween clk low high = keep (λ G. covered low G && consistent clk high G) (box high)
 
--- "Gmin is the clock of the event at p, Gbnd the tallies after position p"; for interval 0 both are the empty cut
+-- rules 23 and 24: the bounds of interval p; for interval 0 both are the empty cut
 abbrev pub gmin : Store → ℕ → List ℕ
 gmin s zero = zeros
 gmin s (suc q) = clockOf (clocksOf s) (eventAt (s .order) q)
@@ -54,20 +53,19 @@ gmin s (suc q) = clockOf (clocksOf s) (eventAt (s .order) q)
 abbrev pub gbnd : Store → ℕ → List ℕ
 gbnd s p = tallies (s .order) p
 
--- "Interval p, for p in 1 to T, is the consistent cuts G with Gmin <= G <= Gbnd in each entry"; "interval 0 holds the
--- empty cut and nothing else". For p above T a call is refused 9, and this is not read.
+-- rules 23 and 24: the consistent cuts between the two bounds. For p above T a call is refused 9, and this is not read.
 unfoldable pub interval : Store → ℕ → List (List ℕ)
 interval s p = cutsBetween (clocksOf s) (gmin s p) (gbnd s p)
 
--- every consistent cut of the trace, found by testing every vector up to the tallies
+-- rule 25: every consistent cut of the trace, found by testing every vector up to the tallies
 unfoldable pub allCuts : Store → List (List ℕ)
 allCuts s = keep (consistent (clocksOf s) (talliesOf s)) (box (talliesOf s))
 
--- the sum of the counts of intervals 0 to T
+-- rule 25: the sum of the counts of intervals 0 to T
 unfoldable pub total : Store → ℕ
 total s = sumBelow (suc (s .events)) (λ p. length (interval s p))
 
--- "Over one interval or the whole trace"
+-- rule 35: the cuts of an interval, or of the whole trace
 abbrev pub cutsIn : Store → Range → List (List ℕ)
 cutsIn s (Interval p) = interval s (p .0)
 cutsIn s Whole = allCuts s

@@ -1,4 +1,4 @@
--- Happened-before (document 004): the least relation that has the order of events on one tablet and the messages, and is
+-- Rule 18, happened-before (document 004): the least relation that has the order of events on one tablet and the messages, and is
 -- transitive. A trace stores no messages: that f had word of e is read off f's clock, which names e as the last event of
 -- e's tablet that f knows. Second-hand word is included, which transitivity would add in any case.
 use mathlib.Core.Path.{_≡_}

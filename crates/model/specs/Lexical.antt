@@ -1,4 +1,4 @@
--- "lexical order .. tablet 1 stands first and is most significant" (document 01, from 002).
+-- Rule 22, the lexical order (document 002), tablet 1 first.
 use Prim.Native.Nat.{ℕ}
 use mathlib.Core.Bool.{Bool, true, false, cond}
 use mathlib.Core.List.{List, [], _∷_, List·Memᴰ}

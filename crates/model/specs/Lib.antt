@@ -1,4 +1,5 @@
--- What must be believed: document 01's rules as short definitions that compute, by topic and from the ground up.
+-- What must be believed: the rules of docs/RULES.md as short definitions that compute, by topic and from the ground up.
+-- Each says by number which rules it states.
 -- A tablet's number i counts from 1. The lists of eight entries (clocks, tallies, cuts) have tablet 1 first, so tablet i
 -- stands in column j = i - 1; the definitions speak of the column j, and of an event by j and its number k, from 1.
 pub mod Lists

@@ -1,19 +1,19 @@
--- Document 01, "Numbers" and the slots of "The store".
+-- How many tablets there may be, and the slots of the events.
 use Prim.Native.Nat.{ℕ, _+_, _-_, _*_}
 use mathlib.Core.Bool.{Bool, _&&_}
 use lib.Dec.{leb}
 use Rattle.model.specs.declared.Tablet.{Tablet}
 use Rattle.model.specs.declared.EventNumber.{EventNumber}
 
--- "Tablets n: 1 to 8."
+-- rule 1
 abbrev pub tabletsFit : ℕ → Bool
 tabletsFit n = leb 1 n && leb n 8
 
--- "Event k of tablet i has slot s = (i-1)*254 + (k-1)", with the column j for i - 1
+-- rule 8: the slot of event k of the tablet in column j
 unfoldable pub slot : ℕ → ℕ → ℕ
 slot j k = j * 254 + (k - 1)
 
--- the same of the numbers that the calls pass
+-- rule 3: the same of the counts that functions pass on, each of its own type
 abbrev pub column : Tablet → ℕ
 column i = i .0 - 1
 

@@ -1,4 +1,4 @@
--- Document 01, "Asking".
+-- What a question asks of a cut, and its answer.
 use Prim.Native.Nat.{ℕ, zero, suc, _/_, _%_}
 use mathlib.Core.Bool.{Bool, true, false, cond, _&&_}
 use mathlib.Core.List.{List, [], _∷_}
@@ -10,7 +10,7 @@ use Rattle.model.specs.Lists.{at, zeros, allBelow, sumBelow, keep}
 use Rattle.model.specs.Store.{Store, heldOf}
 use Rattle.model.specs.Cuts.{cutsIn}
 
--- "Tablet i's holding at G is the held value of its event G[i]; a tablet with G[i] = 0 holds 0."
+-- rule 33: what the tablet in column j holds at a cut
 unfoldable pub holding : Store → List ℕ → ℕ → ℕ
 holding s G j = cond (eqb (at G j) 0) 0 (heldOf s (record { column = j; number = at G j }))
 
@@ -22,14 +22,13 @@ abbrev pub names : ℕ → ℕ → Bool
 names mask zero = eqb (mask % 2) 1
 names mask (suc j) = names (mask / 2) j
 
--- "the sum of holdings is at least K; the sum is exactly K ..; each tablet of a named set holds at least 1"
+-- rule 34: the three questions, of one cut
 unfoldable pub meets : Store → Question → List ℕ → Bool
 meets s (AtLeast k) G = leb k (sumHeld s G)
 meets s (Exactly k) G = eqb (sumHeld s G) k
 meets s (All mask) G = allBelow 8 (λ j. cond (names mask j) (leb 1 (holding s G j)) true)
 
--- "the lexically first consistent cut that meets the question, or "none", with the cut of all zeros, exactly when there is
--- none"
+-- rule 36: a cut that was found, or none, and then zeros
 pub record Witness : Type 0 where
   pub found : Bool
   pub cut : List ℕ
@@ -38,10 +37,10 @@ abbrev pub firstOf : List (List ℕ) → Witness
 firstOf [] = record { found = false; cut = zeros }
 firstOf (G ∷ rest) = record { found = true; cut = G }
 
--- "13: the named set is empty or names a tablet above n"
+-- rule 52, 13: a set that can be asked of n tablets
 unfoldable pub setFits : ℕ → ℕ → Bool
 setFits n mask = leb 1 mask && allBelow 8 (λ j. cond (names mask j) (ltb j n) true)
 
--- "A job carries its question together with the interval or the whole trace it is put to." Asked only once 9 and 13 do not apply.
+-- rules 35 and 36: the first cut of the job's range that meets its question. Read only where neither 9 nor 13 applies.
 unfoldable pub answer : Store → Job → Witness
 answer s job = firstOf (keep (meets s (job .question)) (cutsIn s (job .range)))

@@ -13,11 +13,11 @@ use Rattle.model.specs.Cuts.{Contains}
 abbrev pub AtMost : List ℕ → List ℕ → Type 0
 AtMost U W = (j : ℕ) → j < 8 → at U j ≤ at W j
 
--- G has all that its events know: the clock of the last event of each tablet in it is at most G
+-- rule 21, as a statement: G has all that its events know: the clock of the last event of each tablet in it is at most G
 abbrev pub Closed : Clocks → List ℕ → Type 0
 Closed clk G = (j : ℕ) → j < 8 → AtMost (known clk j (at G j)) G
 
--- a consistent cut: no more events than the tallies have, and all that they know
+-- rule 21, as a statement: a consistent cut: no more events than the tallies have, and all that they know
 pub record Consistent (clk : Clocks) (tal G : List ℕ) : Type 0 where
   pub most : AtMost G tal
   pub known-in : Closed clk G

@@ -1,4 +1,4 @@
--- Document 01, "Refusal numbers". Where a rule gives a number, 0 stands for no refusal.
+-- Rule 52, the numbers of the refusals. Where a definition gives a number, 0 stands for no refusal.
 use Prim.Native.Nat.{ℕ}
 use mathlib.Core.Bool.{cond}
 use lib.Dec.{eqb}
@@ -8,41 +8,41 @@ use Rattle.model.specs.declared.Verdict.the-variants.{Passed, Refused}
 use Rattle.model.specs.declared.Refusal.the-variants.{NoSuchTabletCount, ShortBuffer, InvalidStore, NoSuchTablet, OwnEntryNotNext, EntryTooHigh, NotCovered, TabletFull, NoSuchPosition, PlaceOutside, CountTooLarge, FaultyLine, BadSet, ShortOutput, InputTooLong}
 
 abbrev pub numberOf : Refusal → ℕ
--- n is 0 or above 8
+-- the number of tablets is 0 or above 8
 numberOf NoSuchTabletCount = 1
--- a store buffer is too short
+-- a buffer is too short for the store
 numberOf ShortBuffer = 2
--- the store is not valid
+-- the stored events are not valid
 numberOf InvalidStore = 3
--- tablet number 0 or above n
+-- the event's tablet is 0 or above n
 numberOf NoSuchTablet = 4
--- own clock entry is not the tally plus 1
+-- rule 14 is broken
 numberOf OwnEntryNotNext = 5
--- another entry exceeds its tally, or is nonzero above n
+-- rule 15 is broken
 numberOf EntryTooHigh = 6
--- a known or previous event's clock is not covered
+-- rule 16 is broken
 numberOf NotCovered = 7
--- the tablet has 254 events
+-- the event's tablet is full
 numberOf TabletFull = 8
--- no such position (above T; for writing, above T+1)
+-- there is no such position, or piece
 numberOf NoSuchPosition = 9
--- the place's cut is not in the interval
+-- a begun place's cut is not one of the interval's
 numberOf PlaceOutside = 10
--- the count does not fit 64 bits
+-- a count above 64 bits
 numberOf CountTooLarge = 11
--- a faulty line, or a missing one
+-- a line is faulty or missing
 numberOf FaultyLine = 12
--- the named set is empty or names a tablet above n
+-- a set that cannot be asked
 numberOf BadSet = 13
--- output too short: under 8 bytes (listing), under the piece (writing)
+-- the output is too short
 numberOf ShortOutput = 14
--- `cutcheck` input above 65,536 bytes
+-- the program's input is too long
 numberOf InputTooLong = 15
 
 abbrev pub verdictNumber : Verdict → ℕ
 verdictNumber Passed = 0
 verdictNumber (Refused why) = numberOf why
 
--- "The first that applies is given"
+-- rule 50: the first that applies
 abbrev pub orElse : ℕ → ℕ → ℕ
 orElse refusal next = cond (eqb refusal 0) next refusal

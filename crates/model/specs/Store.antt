@@ -1,4 +1,4 @@
--- Document 01, "The store": a record with its three lent buffers, accepting, and when a store is valid.
+-- A record with its three lent buffers, accepting, and when a store is valid.
 use Prim.Native.Nat.{ℕ, _+_, _*_}
 use mathlib.Core.Bool.{Bool, not, cond, _&&_}
 use mathlib.Core.List.{List}
@@ -12,7 +12,7 @@ use Rattle.model.specs.Refusals.{orElse}
 use Rattle.model.specs.Clocks.{Clocks, EventName, clockAt}
 use Rattle.model.specs.Follow.{tally, tallies, followRefusal, followTo}
 
--- "A record (n, T) goes with three lent buffers"
+-- rule 7: a record beside its buffers
 pub record Store : Type 0 where
   pub tablets : ℕ
   pub events : ℕ
@@ -39,22 +39,22 @@ noRecord = record { tablets = 0; events = 0 }
 abbrev pub clocksOf : Store → Clocks
 clocksOf s = clockAt (s .clocks)
 
--- "held: 2,032 numbers of 16 bits, one a slot"
+-- rules 5 and 8: the held value of an event
 abbrev pub heldOf : Store → EventName → ℕ
 heldOf s e = getD (s .held) (slot (e .column) (e .number)) 0
 
--- the tallies now
+-- rule 12: the tallies now
 abbrev pub talliesOf : Store → List ℕ
 talliesOf s = tallies (s .order) (s .events)
 
--- "always of full size; a longer tail is neither read nor touched": the bytes of clocks, the numbers of held, the bytes of order
+-- rule 7: long enough, the bytes of clocks, the numbers of held and the bytes of order; what is behind is not looked at
 abbrev pub fullSizes : List ℕ → List ℕ → List ℕ → Bool
 fullSizes clocks held order = leb 16256 (length clocks) && leb 2032 (length held) && leb 2032 (length order)
 
 unfoldable pub fullSize : Store → Bool
 fullSize s = fullSizes (s .clocks) (s .held) (s .order)
 
--- "A store is valid when T is at most 2,032 and its events, taken in order from none, each may follow."
+-- rules 2 and 17
 unfoldable pub valid : Store → Bool
 valid s = leb (s .events) 2032 && followTo (s .tablets) (clocksOf s) (s .order) (s .events)
 
@@ -62,12 +62,11 @@ valid s = leb (s .events) 2032 && followTo (s .tablets) (clocksOf s) (s .order) 
 unfoldable pub recordRefusal : Record → ℕ
 recordRefusal r = cond (not (tabletsFit (r .tablets))) 1 0
 
--- "Each call that takes a store tests this, after refusals 1 and 2 and before all else": 0 where it passes
+-- rules 17 and 53: 0 where the store is sound
 unfoldable pub storeRefusal : Store → ℕ
 storeRefusal s = orElse (recordRefusal (recordOf s)) (cond (not (fullSize s)) 2 (cond (not (valid s)) 3 0))
 
--- "Accepting an event writes its slot's clock and held value and the next order byte, and gives T+1; every other place is
--- untouched."
+-- rule 11: the next slot of the event's tablet, and the store with the event
 abbrev pub nextSlot : Store → Event → ℕ
 nextSlot s e = slot (column (e .tablet)) (tally (s .order) (s .events) (column (e .tablet)) + 1)
 
@@ -81,6 +80,6 @@ accepted s e =
       order = set (s .order) (s .events) (e .tablet .0);
     }
 
--- the refusal of an event offered to a store that passes `storeRefusal`; 0 where it may follow
+-- rules 13 to 16: the refusal of an event offered to a store that passes `storeRefusal`; 0 where it may follow
 unfoldable pub eventRefusal : Store → Event → ℕ
 eventRefusal s e = followRefusal (s .tablets) (clocksOf s) (talliesOf s) (e .tablet .0) (e .clock)

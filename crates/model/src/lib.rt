@@ -1,6 +1,6 @@
 // The values that every call of the library takes and gives. What they mean is defined in specs/.
 
-// Three counts that are never exchanged, and a fourth that looks like the third.
+// Three kinds of count, a type each, and a fourth that looks like the third.
 
 // A tablet's number, from 1. 0 and numbers above n stand in it only as they are offered, in an event that is then refused, or
 // in a store that is then found not valid.
@@ -9,7 +9,7 @@ pub struct Tablet(pub u8);
 // An event's number on its tablet, from 1. Where the last event of a tablet is meant, 0 says that there is none yet.
 pub struct EventNumber(pub u8);
 
-// A position in the trace, from 1 in order of acceptance. Where an interval is meant, 0 is the interval of the empty cut; where
+// A position in the trace: the event accepted first has 1. Where an interval is meant, 0 is the interval of the empty cut; where
 // the events up to a position are meant, 0 is before the first.
 pub struct Position(pub u16);
 
@@ -54,7 +54,7 @@ pub enum Range {
     Whole,
 }
 
-// A question together with the interval or the whole trace that it is put to.
+// A question, and the cuts that it is put to.
 pub struct Job {
     pub question: Question,
     pub range: Range,

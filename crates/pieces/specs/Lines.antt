@@ -1,4 +1,4 @@
--- "Key=value lines .., each ended by one LF (byte 10)": the lines that are written, behind a key.
+-- Rules 37 and 39, the lines that are written: a key, what stands behind it, and an LF (byte 10).
 use Prim.Native.Nat.{ℕ}
 use mathlib.Core.List.{List, [], _∷_, _++_}
 use Rattle.lines.specs.Numbers.{decimal}

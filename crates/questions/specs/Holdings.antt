@@ -1,4 +1,4 @@
--- Document 01, "Asking", as the code meets it: what is read of a store for a question is its held values alone.
+-- Rules 33 and 34 as the code meets them: what is read of a store for a question is its held values alone.
 use mathlib.Core.Path.{_≡_}
 use Prim.Native.Nat.{ℕ, _≤_, _<_}
 use mathlib.Core.Bool.{Bool, true, cond}
@@ -26,11 +26,11 @@ pub record HoldingOf (held counts : List ℕ) (j value : ℕ) : Type 0 where
   pub value-is : ForHeld held (λ s. value ≡ holding s counts j)
   pub small : value ≤ 65535
 
--- "each tablet of a named set holds at least 1"
+-- rule 34: each tablet of a set holds 1 or more
 abbrev pub eachNamed : Store → ℕ → List ℕ → Bool
 eachNamed s mask G = allBelow 8 (λ j. cond (names mask j) (leb 1 (holding s G j)) true)
 
--- "13: the named set is empty or names a tablet above n"
+-- rule 52, 13: only a set can be refused
 abbrev pub questionFits : ℕ → Question → Bool
 questionFits n (AtLeast k) = true
 questionFits n (Exactly k) = true

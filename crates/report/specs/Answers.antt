@@ -7,7 +7,7 @@ use Rattle.model.specs.Store.{Store}
 use Rattle.model.specs.Cuts.{interval}
 use Rattle.model.specs.Questions.{Witness, answer}
 
--- "The question is put to the whole trace."
+-- rule 46: the question is asked of all cuts
 abbrev pub witnessOf : Store → Question → Witness
 witnessOf s question = answer s (record { question = question; range = Whole })
 

@@ -1,3 +1,3 @@
--- Document 01, "What cutcheck prints".
+-- Rules 46 to 49: what the program prints.
 pub mod Answers
 pub mod Report

@@ -44,24 +44,24 @@ abbrev pub shown : ℕ → ℕ → List ℕ → List ℕ → Printed
 shown refusal line text out =
     record { refusal = refusal; line = line; length = length text; output = text ++ drop (length text) out }
 
--- "A refusal prints only `refused=R,L`"
+-- rule 49: a refusal's line at the front of an output
 abbrev pub refusedShown : ℕ → ℕ → List ℕ → Printed
 refusedShown number line out = shown number line (refusedLine number line) out
 
--- of a sound store, with a witness or none: "(11 has line 0)" where the sum does not fit 64 bits, and so where a count does not
+-- rules 48 and 49, of a sound store, with a witness or none: 11 with line 0 where the sum does not fit 64 bits, and so where a count does not
 unfoldable pub counting : Store → Bool → List ℕ → List ℕ → Printed
 counting s found cut out =
     cond (fits64 (total s)) (shown 0 0 (answerLines (s .tablets) (s .events) (countOf s) (total s) found cut) out)
     (refusedShown 11 0 out)
 
--- "13 with line 0", once the trace was read
+-- rule 47: 13 with line 0, once the trace was read
 unfoldable pub answering : Store → Question → List ℕ → Printed
 answering s question out =
     cond (questionFits (s .tablets) question)
     (counting s (witnessOf s question .found) (witnessOf s question .cut) out)
     (refusedShown 13 0 out)
 
--- of what reading gave: its own refusal and line come first
+-- rule 47, of what reading gave: its own refusal and line come first
 unfoldable pub answeringRead : ReadOutcome → Question → List ℕ → Printed
 answeringRead r question out =
     cond (eqb (r .refusal) 0) (answering (r .store) question out) (refusedShown (r .refusal) (r .line) out)
@@ -81,7 +81,7 @@ unfoldable pub tracing : ReadOutcome → Question → List ℕ → ReportOutcome
 tracing r question out =
     outcome (answeringRead r question out) (r .store .clocks) (r .store .held) (r .store .order)
 
--- What is seen before the trace is read: "15 with line 0, ask line". A faulty ask line is 12.
+-- Rule 47, what is seen before the trace is read: the size, then the ask line. A faulty ask line is 12.
 abbrev pub looked : AskLine → Look
 looked (Ask question) = Asks question
 looked Faulty = Refuses FaultyLine
@@ -94,8 +94,8 @@ abbrev pub following : Look → List ℕ → List ℕ → List ℕ → List ℕ 
 following (Refuses why) trace clocks held order out = outcome (refusedShown (numberOf why) 0 out) clocks held order
 following (Asks question) trace clocks held order out = tracing (reading trace clocks held order) question out
 
--- "Checks: 15 with line 0, ask line, trace, 13 with line 0." An output that is shorter than `room` is 14 before them, and is left
--- as it was: our choice, told at `room`.
+-- Rule 47, all the checks. An output that is shorter than `room` is 14 before them, and is left as it was: our choice, told at
+-- `room`.
 unfoldable pub reporting : List ℕ → List ℕ → List ℕ → List ℕ → List ℕ → ReportOutcome
 reporting input clocks held order out =
     cond (ltb (length out) room) (outcome (record { refusal = 14; line = 0; length = 0; output = out }) clocks held order)

@@ -14,7 +14,7 @@ use refusals::refuse;
 ghost use mathlib.Core.Path.{_≡_};
 ghost use Rattle.report.specs.Report.{printed, outcome, reporting};
 
-// One byte more than document 01 allows, enough to know that an input is too long.
+// One byte more than rule 47 allows, enough to know that an input is too long.
 pub const INPUT_SIZE: usize = 65537;
 // Enough for the answer of the longest input.
 pub const OUTPUT_SIZE: usize = 71680;

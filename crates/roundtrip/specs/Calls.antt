@@ -22,6 +22,6 @@ abbrev pub fronts : (ℕ → ℕ) → (ℕ → List ℕ) → ℕ → List ℕ
 fronts lengths outputs zero = take (lengths 0) (outputs 0)
 fronts lengths outputs (suc p) = fronts lengths outputs p ++ take (lengths (suc p)) (outputs (suc p))
 
--- "The text is the pieces joined": what all the calls wrote, each as many bytes as it answered
+-- rule 45: what all the calls wrote, each as many bytes as it answered
 abbrev pub joined : (s : Store) → Written s → List ℕ
 joined s w = fronts (λ p. w .answer p .length) (w .after) (s .events + 1)

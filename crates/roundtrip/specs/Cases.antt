@@ -1,4 +1,4 @@
--- Document 01's own text, and the readings of "Trace text" that are easy to get wrong, as one table of tests.
+-- Document 01's own text, and texts that are easy to misread by rules 37 to 42, as one table of tests.
 use Prim.Native.Nat.{ℕ}
 use mathlib.Core.Bool.{Bool, _&&_}
 use mathlib.Core.List.{List, [], _∷_, _++_}
@@ -18,7 +18,7 @@ abbrev pub says : List ℕ → ℕ → ℕ → ℕ → ℕ → Bool
 says text refusal line n events =
     told (reading text (replicate 16256 0) (replicate 2032 0) (replicate 2032 0)) refusal line n events
 
--- the page's text byte by byte, so that the keys are pinned too
+-- document 01's text byte by byte, so that the keys are pinned too
 abbrev pub example : List ℕ
 example =
     116 ∷ 97 ∷ 98 ∷ 108 ∷ 101 ∷ 116 ∷ 115 ∷ 61 ∷ 50 ∷ 10 ∷ 116 ∷ 97 ∷ 98 ∷ 108 ∷ 101 ∷ 116 ∷ 61 ∷ 49 ∷ 10 ∷ 99 ∷ 108 ∷ 111 ∷ 99 ∷ 107 ∷ 61 ∷ 49 ∷ 44 ∷ 48 ∷ 10 ∷ 104 ∷ 101 ∷ 108 ∷ 100 ∷ 61 ∷ 49 ∷ 10 ∷ 101 ∷ 118 ∷ 101 ∷ 110 ∷ 116 ∷ 115 ∷ 61 ∷ 49 ∷ 10 ∷ []
@@ -37,7 +37,7 @@ event tablet clock held = line tabletKey tablet ++ (line clockKey clock ++ line 
 abbrev pub oneDay : List ℕ → List ℕ → List ℕ → List ℕ → List ℕ
 oneDay tablet clock held events = two ++ (event tablet clock held ++ line eventsKey events)
 
--- the values of the page's text: 1, and 1,0
+-- the values of that text: 1, and 1,0
 abbrev pub one : List ℕ
 one = 49 ∷ []
 
@@ -46,7 +46,7 @@ oneNought = 49 ∷ 44 ∷ 48 ∷ []
 
 abbrev pub table : List Bool
 table =
-    -- the text of the page, written and read
+    -- document 01's text, written and read
     same (textOf (day 2 (a1 ∷ []))) example
     ∷ same (oneDay one oneNought one one) example
     ∷ says example 0 0 2 1
@@ -65,7 +65,7 @@ table =
     -- clocks of n - 1 and of n + 1 entries
     ∷ says (oneDay one one one one) 12 3 2 0
     ∷ says (oneDay one (49 ∷ 44 ∷ 48 ∷ 44 ∷ 48 ∷ []) one one) 12 3 2 0
-    -- a refused event is named at its `held` line: clock 2,0, and tablet 3 of 2
+    -- refused events: clock 2,0, and tablet 3 of 2
     ∷ says (oneDay one (50 ∷ 44 ∷ 48 ∷ []) one one) 5 4 2 0
     ∷ says (oneDay (51 ∷ []) oneNought one one) 4 4 2 0
     -- a faulty later line of a refused event comes first: held x
@@ -75,7 +75,7 @@ table =
     ∷ says (oneDay one oneNought one (49 ∷ 56 ∷ 52 ∷ 52 ∷ 54 ∷ 55 ∷ 52 ∷ 52 ∷ 48 ∷ 55 ∷ 51 ∷ 55 ∷ 48 ∷ 57 ∷ 53 ∷ 53 ∷ 49 ∷ 54 ∷ 49 ∷ 55 ∷ [])) 12 5 2 1
     -- bytes after `events`, even one LF
     ∷ says (example ++ (10 ∷ [])) 12 6 2 1
-    -- a text that ends early: the line after the last whole one
+    -- texts that end too soon
     ∷ says (two ++ line tabletKey one) 12 3 2 0
     ∷ says two 12 2 2 0
     -- `tablets=` where `tablet=` is due

@@ -1,3 +1,3 @@
--- Document 01, "Trace text": its own text and the readings easy to get wrong, and a text written by calls.
+-- Rules 37 to 45: texts that are easy to misread, and a text written by calls.
 pub mod Cases
 pub mod Calls

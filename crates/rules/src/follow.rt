@@ -1,4 +1,4 @@
-// The rules of following, in document 01's order: 4 and 8 by the tablet, 5, 6 and 7 by the clock.
+// The rules of following, in the order of rule 53: 4 and 8 by the tablet, 5, 6 and 7 by the clock.
 use crate::clocks::known_covered;
 use crate::clocks::slot_of;
 use model::EventNumber;

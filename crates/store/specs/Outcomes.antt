@@ -19,7 +19,7 @@ pub record Opened : Type 0 where
 abbrev pub opened : Taken → Opened
 opened t = record { refusal = verdictNumber (t .verdict); returned = t .record }
 
--- "Opening answers (n, 0)"; "the record comes back as given, for opening .. as (0, 0)"
+-- rules 10 and 51: a fresh record, or none
 abbrev pub opening : ℕ → Opened
 opening n =
     record { refusal = recordRefusal (freshRecord n); returned = cond (eqb (recordRefusal (freshRecord n)) 0) (freshRecord n) noRecord }
@@ -33,14 +33,13 @@ abbrev pub taken : Taken → List ℕ → List ℕ → List ℕ → Outcome
 taken t clocks held order =
     record { refusal = verdictNumber (t .verdict); store = storeOf (t .record) clocks held order }
 
--- an event offered to a sound store: "for an event 4, 8, 5, 6, 7"; "A refusal changes no buffer .. the record comes back
--- as given"
+-- rules 11 and 51, an event offered to a sound store: taken, or refused with record and buffers as they were
 abbrev pub appending : Store → Event → Outcome
 appending s e =
     cond (eqb (eventRefusal s e) 0) (record { refusal = 0; store = accepted s e })
     (record { refusal = eventRefusal s e; store = s })
 
--- the same of any store: "1, 2, 3, then for an event .."
+-- rule 53, the same of any store
 abbrev pub accepting : Store → Event → Outcome
 accepting s e = cond (eqb (storeRefusal s) 0) (appending s e) (record { refusal = storeRefusal s; store = s })
 

@@ -1,5 +1,5 @@
 // The store of a trace over the caller's three buffers: opening, accepting events, checking.
-// Each public call tests all that it is given and refuses by document 01's number; what it answers and leaves in every
+// Each public call tests all that it is given and refuses by the numbers of rule 52; what it answers and leaves in every
 // buffer is fixed by its contract for all inputs.
 pub mod inner;
 mod testing;

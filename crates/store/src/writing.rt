@@ -1,4 +1,4 @@
-// The writes of an accepted event: its slot's clock and held value, and the next order byte.
+// What accepting an event writes.
 use crate::inner::Appended;
 use crate::inner::write_eight;
 use model::Event;

@@ -8,7 +8,7 @@ use native.Mathlib.Omega.{arith}
 use borrow.Author.Tests.{eq-eqb, ne-eqb}
 use lib.Dec.{eqb}
 use Rattle.model.specs.declared.Verdict.{Verdict}
-use Rattle.text.specs.declared.steps.Step.{Step}
+use Rattle.text.specs.declared.standing.Step.{Step}
 use Rattle.text.specs.Reading.{ReadOutcome, readOutcome}
 use Rattle.text.specs.Steps.{Placed, halted, stoppedAt, StepTaken}
 

@@ -11,12 +11,12 @@ use lib.WfN.{Nat·lt-wfRel}
 use denote.Laws.{Is}
 use denote.Struct.Laws as LL
 use Rattle.model.specs.Store.{Store, storeOf, fullSizes}
-use Rattle.text.specs.declared.steps.Step.{Step}
+use Rattle.text.specs.declared.standing.Step.{Step}
 use Rattle.text.specs.Reading.{ReadOutcome, readOutcome, reading}
 use Rattle.text.specs.Steps.{Placed, begunStep, stoppedAt, readHere, resumed, TurnReady, GoesOn, StepTaken}
 use Rattle.text.proofs.Places.{at-front}
-use Rattle.text.proofs.steps.Step as S
-use Rattle.text.proofs.steps.Step.Laws as S′
+use Rattle.text.proofs.standing.Step as S
+use Rattle.text.proofs.standing.Step.Laws as S′
 
 pub is-off : (b : Bool) → T (not b) → b ≡ false
 is-off true h = absurd h

@@ -23,11 +23,11 @@ abbrev pub readOutcome : ReadAnswer → List ℕ → List ℕ → List ℕ → R
 readOutcome a clocks held order =
     record { refusal = verdictNumber (a .verdict); line = a .line; store = storeOf (a .record) clocks held order }
 
--- "A refusal keeps the events before it in store and record, and names the line"
+-- rule 42: a refusal names its line, and keeps what was accepted before
 abbrev pub refused : ℕ → ℕ → Store → ReadOutcome
 refused number line s = record { refusal = number; line = line; store = s }
 
--- "`events` is T and is the last line"; "bytes after `events`, are faulty lines"
+-- rules 38 and 40 to 42: the last line
 unfoldable pub ending : Store → ℕ → List ℕ → ReadOutcome
 ending s line text =
     withNumber (numberLine eventsKey 65535 text) (refused 12 line s)
@@ -35,7 +35,7 @@ ending s line text =
     (cond (ltb (lineBytes text) (length text)) (refused 12 (line + 1) s) (record { refusal = 0; line = 0; store = s }))
     (refused 12 line s)
 
--- the three lines of an event, offered to the store: a faulty one is named itself, a refused event by its `held` line
+-- rule 42: the three lines of an event, offered to the store: a faulty one is named itself, a refused event by its `held` line
 pub record TurnOutcome : Type 0 where
   pub refusal : ℕ
   pub line : ℕ
@@ -51,7 +51,7 @@ offered s e =
 unfoldable pub turn : Store → List ℕ → TurnOutcome
 turn s text = offered s (eventLines (s .tablets) text)
 
--- Behind the `tablets` line: event after event, up to the `events` line
+-- Rule 41, behind the `tablets` line: event after event, up to the `events` line
 abbrev pub readFrom : ℕ → Store → ℕ → List ℕ → ReadOutcome
 readFrom zero s line text = refused 12 line s
 readFrom (suc turns) s line text =
@@ -65,7 +65,7 @@ readFrom (suc turns) s line text =
 unfoldable pub readOn : Store → ℕ → List ℕ → ReadOutcome
 readOn s line text = readFrom (2033 - s .events) s line text
 
--- "for reading without an accepted `tablets` line as (0, 0)"
+-- rule 51: the store before an accepted `tablets` line
 abbrev pub nothingRead : List ℕ → List ℕ → List ℕ → Store
 nothingRead clocks held order = storeOf noRecord clocks held order
 
@@ -74,7 +74,7 @@ abbrev pub openedText : Opened → List ℕ → List ℕ → List ℕ → ReadOu
 openedText o clocks held order =
     record { refusal = o .refusal; line = cond (eqb (o .refusal) 0) 0 1; store = storeOf (o .returned) clocks held order }
 
--- "Reading gives 2 first (line 0), then goes line by line": 12 for a faulty `tablets` line, 1 for a number of tablets that
+-- rules 41, 51 and 53: 2 with line 0, then the first line: 12 for a faulty `tablets` line, 1 for a number of tablets that
 -- opening refuses, else the fresh record
 unfoldable pub beginning : List ℕ → List ℕ → List ℕ → List ℕ → ReadOutcome
 beginning text clocks held order =

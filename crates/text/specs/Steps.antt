@@ -14,13 +14,13 @@ use Rattle.model.specs.Store.{Store, storeOf, noRecord, fullSizes}
 use Rattle.store.specs.Outcomes.{AppendReady}
 use Rattle.loglines.specs.Events.{eventLines}
 use Rattle.text.specs.declared.reading.ReadAnswer.{ReadAnswer}
-use Rattle.text.specs.declared.steps.Step.{Step}
+use Rattle.text.specs.declared.standing.Step.{Step}
 use Rattle.text.specs.declared.events.Turn.{Turn}
 use Rattle.text.specs.Reading.{ReadOutcome, readOutcome, TurnOutcome, ending, turn, readOn, reading}
 
 -- Where the reader stands.
 
--- "Lines count from 1": the line at an offset is one more than there are LFs (byte 10) in front of it
+-- rules 41 and 43: the line at an offset is one more than there are LFs (byte 10) in front of it
 abbrev pub feeds : ℕ → List ℕ → ℕ
 feeds zero text = 0
 feeds (suc at) [] = 0

@@ -1,6 +1,6 @@
 // Behind the head: the three lines of an event, offered to the store, and the last line.
-use crate::steps::Step;
-use crate::steps::halt;
+use crate::standing::Step;
+use crate::standing::halt;
 use lines::find::line_length;
 use lines::numbers::Number;
 use loglines::events::read_event;

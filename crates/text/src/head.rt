@@ -1,7 +1,7 @@
 // The head of a text: the `tablets` line, at the text's front.
-use crate::steps::Step;
-use crate::steps::begun;
-use crate::steps::halt;
+use crate::standing::Step;
+use crate::standing::begun;
+use crate::standing::halt;
 use lines::find::line_length;
 use lines::numbers::Number;
 use loglines::keys::TABLETS;

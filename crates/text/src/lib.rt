@@ -3,7 +3,7 @@
 mod events;
 mod head;
 pub mod reading;
-mod steps;
+mod standing;
 
 use model::Refusal;
 use model::Verdict;

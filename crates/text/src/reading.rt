@@ -2,9 +2,9 @@
 // line. The store is tested once, by the caller; what an append asks is kept from turn to turn.
 use crate::events::event_turn;
 use crate::head::head_turn;
-use crate::steps::Step;
-use crate::steps::begun;
-use crate::steps::stopped;
+use crate::standing::Step;
+use crate::standing::begun;
+use crate::standing::stopped;
 use loglines::reader::moved;
 use loglines::reader::over;
 use model::Record;

@@ -150,7 +150,7 @@ pub(crate) fn compare_cuts(book: &mut Book, from: u64, list: u64, seen: u64, cou
     }
 }
 
-// "The place then is begun and holds the last cut written, or is unchanged if none was."
+// The place behind so many cuts (rule 30).
 fn moved(book: &Book, plan: Plan, from: Stand, count: u64) -> Stand {
     if count == 0 {
         return from;

@@ -46,7 +46,7 @@ fn refuse_event(book: &mut Book, event: Row, number: u64) {
     offer(book, event);
 }
 
-// "Tablets 8 opens, 9 and 0 are refused 1"; and each number of tablets without events has one cut.
+// 1 to 8 tablets open, 0 and 9 do not; and each number of tablets without events has one cut.
 pub(crate) fn try_empty(book: &mut Book) {
     open(book, 0);
     open(book, 9);
@@ -78,7 +78,7 @@ fn add_chain(book: &mut Book, n: u64, most: u64) {
     }
 }
 
-// "Event 254 is accepted, the next refused 8", of each tablet.
+// Each tablet takes 254 events, and the next is refused 8.
 fn offer_full(book: &mut Book, n: u64) {
     let mut tablet: u64 = 0;
     while tablet < n {

@@ -96,7 +96,7 @@ fn put_order(order: &mut Order, i: u64, v: u64) {
     }
 }
 
-// "Event k of tablet i has slot s = (i-1)*254 + (k-1)."
+// The slot of an event (rule 8).
 pub(crate) fn slot_at(book: &Book, p: u64) -> u64 {
     let column = column_of(tablet_at(book, p));
     let number = entry(clock_at(book, p), column);

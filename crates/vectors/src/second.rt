@@ -30,7 +30,7 @@ pub(crate) fn at_most(low: u64, high: u64) -> bool {
     true
 }
 
-// "for each other j, V[j] is at most j's tally, and 0 above n"
+// Rule 15.
 fn others_fit(book: &Book, own: u64, clock: u64) -> bool {
     let n = tablets(book);
     let mut j: u64 = 0;
@@ -44,8 +44,8 @@ fn others_fit(book: &Book, own: u64, clock: u64) -> bool {
     true
 }
 
-// "the clock of tablet i's previous event, if any, is at most V in each entry", and the same of "event V[j] of tablet j" for
-// each other j with V[j] > 0. An event 0 knows nothing, so it is covered.
+// Rule 16: the event before on the tablet itself, and the last that is known of each other one. An event 0 knows nothing, so
+// it is covered.
 fn known_covered(book: &Book, own: u64, clock: u64) -> bool {
     let mut j: u64 = 0;
     while j < 8 {
@@ -86,8 +86,7 @@ pub(crate) fn follow_number(book: &Book, tablet: u64, clock: u64) -> u64 {
     0
 }
 
-// "each G[i] is at most the tally and, for each i with G[i] > 0, the clock of event G[i] of tablet i is at most G in each
-// entry"
+// Rule 21.
 fn consistent(book: &Book, cut: u64) -> bool {
     let mut i: u64 = 0;
     while i < 8 {
@@ -183,7 +182,7 @@ pub(crate) fn index_of(book: &Book, list: u64, total: u64, cut: u64) -> u64 {
     total
 }
 
-// "Tablet i's holding at G is the held value of its event G[i]; a tablet with G[i] = 0 holds 0."
+// Rule 33.
 fn holding(book: &Book, cut: u64, column: u64) -> u64 {
     let number = entry(cut, column);
     if number == 0 {

@@ -1,4 +1,4 @@
--- Document 01, "Counting": "The number of cuts of an interval, in 64 bits."
+-- Rule 32, the number of cuts of a range.
 use mathlib.Core.Path.{_≡_}
 use Prim.Native.Nat.{ℕ, _^_}
 use mathlib.Core.Bool.{Bool, cond}
@@ -6,7 +6,7 @@ use mathlib.Core.List.{List}
 use lib.Dec.{ltb}
 use lib.ListN.{length}
 
--- "11: the count does not fit 64 bits"
+-- rule 52, 11
 abbrev pub fits64 : ℕ → Bool
 fits64 count = ltb count (2 ^ 64)
 

@@ -1,4 +1,4 @@
--- Document 01, "Asking", as the code meets it.
+-- Rule 36 as the code meets it.
 use mathlib.Core.Path.{_≡_}
 use Prim.Native.Nat.{ℕ}
 use mathlib.Core.Bool.{Bool}

@@ -1,4 +1,4 @@
--- Document 01, "Listing", as far as it is about the cuts that are written.
+-- Rules 29 and 30, as far as they are about the cuts that are written.
 use mathlib.Core.Path.{_≡_}
 use Prim.Native.Nat.{ℕ, _*_, _/_, _≤_}
 use mathlib.Core.Bool.{Bool, true}
@@ -19,7 +19,7 @@ pub record Pending (n : ℕ) (clocks low high first out : List ℕ) : Type 0 whe
 abbrev pub fromCut : List (List ℕ) → List ℕ → List (List ℕ)
 fromCut cuts G = G ∷ keep (lexBefore G) cuts
 
--- "Whole cuts of 8 bytes are written from the front of a lent output"
+-- rule 29: cuts as bytes, and how many fit whole
 abbrev pub flat : List (List ℕ) → List ℕ
 flat [] = []
 flat (G ∷ Gs) = G ++ flat Gs
@@ -27,11 +27,11 @@ flat (G ∷ Gs) = G ++ flat Gs
 abbrev pub room : List ℕ → ℕ
 room out = length out / 8
 
--- "the rest of the output stays"
+-- rule 29: what was shown, and behind it the output as it was
 abbrev pub written : List (List ℕ) → List ℕ → List ℕ
 written shown out = flat shown ++ drop (8 * length shown) out
 
--- "The place then is begun and holds the last cut written, or is unchanged if none was."
+-- rule 30: the place behind the last of some cuts; the place before where there is none
 abbrev pub placeBehind : List ℕ → Place
 placeBehind G = record { begun = true; cut = record { counts = G } }
 
@@ -39,7 +39,7 @@ abbrev pub behindAll : Place → List (List ℕ) → Place
 behindAll place [] = place
 behindAll place (G ∷ Gs) = behindAll (placeBehind G) Gs
 
--- "lexically rising, as many as fit or remain". The place does not depend on the one before, since a cut is written.
+-- rules 29 and 30: as many as there are and fit. The place does not depend on the one before, since a cut is written.
 pub record ShownOf (cuts : List (List ℕ)) (out : List ℕ) (count : ℕ) (after : Place) (more : Bool) (result : List ℕ) : Type 0 where
   pub count-is : count ≡ length (take (room out) cuts)
   pub place-is : (before : Place) → after ≡ behindAll before (take (room out) cuts)

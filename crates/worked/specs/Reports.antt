@@ -42,7 +42,7 @@ traceA =
 abbrev pub ask : List ℕ → List ℕ
 ask value = atLeastKey ++ (value ++ (10 ∷ []))
 
--- "the whole output" of the page
+-- document 01's output
 abbrev pub outputB : List ℕ
 outputB =
     -- tablets=2
@@ -64,7 +64,7 @@ outputB =
     -- witness=1,1
     119 ∷ 105 ∷ 116 ∷ 110 ∷ 101 ∷ 115 ∷ 115 ∷ 61 ∷ 49 ∷ 44 ∷ 49 ∷ 10 ∷ []
 
--- `ask=atleast,2` and trace B, byte for byte as the page has the input's first line and the whole output
+-- `ask=atleast,2` and trace B, byte for byte as document 01 has the input's first line and its output
 abbrev pub askTwo : List ℕ
 askTwo = 97 ∷ 115 ∷ 107 ∷ 61 ∷ 97 ∷ 116 ∷ 108 ∷ 101 ∷ 97 ∷ 115 ∷ 116 ∷ 44 ∷ 50 ∷ 10 ∷ []
 
@@ -87,16 +87,16 @@ table =
     prints (askTwo ++ traceB) outputB
     -- at least 3: no witness, and the other lines are the same
     ∷ prints (ask (51 ∷ []) ++ traceB) (take (length outputB - 12) outputB ++ noWitness)
-    -- A: intervals 1,1,2,2,1; exactly 0 gives 0,0, set {2} gives 2,2
+    -- A: its counts, and one question of each kind that finds a cut
     ∷ prints (exactlyKey ++ (48 ∷ 10 ∷ traceA)) (linesA ++ listLine witnessKey (0 ∷ 0 ∷ []))
     ∷ prints (allKey ++ (50 ∷ 10 ∷ traceA)) (linesA ++ listLine witnessKey (2 ∷ 2 ∷ []))
-    -- after A's first two, 2/2,2 is refused 6, at its `held` line
+    -- A's last event too early: 6 at its `held` line
     ∷ prints (askTwo ++ earlyA) (refusedLine 6 10)
     -- tablet 3 of 2 in the set: 13, line 0, once the trace was read; a faulty trace comes before it, and a faulty ask line first
     ∷ prints (allKey ++ (51 ∷ 10 ∷ traceB)) (refusedLine 13 0)
     ∷ prints (allKey ++ (51 ∷ 10 ∷ (traceB ++ (10 ∷ [])))) (refusedLine 12 15)
     ∷ prints (allKey ++ (10 ∷ traceB)) (refusedLine 12 0)
-    -- no trace: the line after the last whole one is its first
+    -- no trace: its first line is missing
     ∷ prints askTwo (refusedLine 12 1)
     -- tablets 9: refused 1 at line 1
     ∷ prints (askTwo ++ keyLine tabletsKey 9) (refusedLine 1 1)

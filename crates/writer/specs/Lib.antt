@@ -1,2 +1,2 @@
--- Document 01, "Trace text": what writing answers and leaves behind.
+-- Rules 44 and 45: what writing answers and leaves behind.
 pub mod Writing

@@ -1,4 +1,4 @@
--- "Writing is by pieces: 0 the `tablets` line, p in 1 to T three lines, T+1 the `events` line. The text is the pieces joined."
+-- Rules 44 and 45, writing by pieces.
 use mathlib.Core.Path.{_≡_}
 use Prim.Native.Nat.{ℕ, zero, suc, _+_, _-_, _≤_, _<_}
 use mathlib.Core.Bool.{cond}
@@ -13,22 +13,24 @@ use Rattle.pieces.specs.Lines.{keyLine, listLine}
 use Rattle.writer.specs.declared.WriteAnswer.{WriteAnswer}
 use Rattle.loglines.specs.Keys.{tabletsKey, tabletKey, clockKey, heldKey, eventsKey}
 
--- the three lines of an event
+-- rule 38: the three lines of an event
 abbrev pub threeLines : ℕ → List ℕ → ℕ → List ℕ
 threeLines tablet entries held =
     keyLine tabletKey tablet ++ (listLine clockKey entries ++ keyLine heldKey held)
 
--- those of the event at position q + 1: of its clock the n entries of the tablets that there are
+-- rules 39 and 44: those of the event at position q + 1: of its clock the n entries of the tablets that there are
 unfoldable pub eventText : Store → ℕ → List ℕ
 eventText s q =
     threeLines (getD (s .order) q 0) (take (s .tablets) (clockOf (clocksOf s) (eventAt (s .order) q))) (heldOf s (eventAt (s .order) q))
 
+-- rule 44: the piece of a number
+-- rule 44: the piece of a number
 unfoldable pub pieceText : Store → ℕ → List ℕ
 pieceText s p =
     cond (eqb p 0) (keyLine tabletsKey (s .tablets))
     (cond (leb p (s .events)) (eventText s (p - 1)) (keyLine eventsKey (s .events)))
 
--- the pieces 0 to p joined, and the whole text
+-- rule 45: the pieces 0 to p joined, and the whole text
 abbrev pub piecesTo : Store → ℕ → List ℕ
 piecesTo s zero = pieceText s 0
 piecesTo s (suc p) = piecesTo s p ++ pieceText s (suc p)
@@ -36,7 +38,7 @@ piecesTo s (suc p) = piecesTo s p ++ pieceText s (suc p)
 unfoldable pub textOf : Store → List ℕ
 textOf s = piecesTo s (s .events + 1)
 
--- "1, 2, 3, then .. writing 9, 14": 0 where the piece is written
+-- rule 53: 1, 2, 3, then 9 and 14; 0 where the piece is written
 unfoldable pub writeRefusal : Store → ℕ → ℕ → ℕ
 writeRefusal s p room =
     orElse (storeRefusal s) (cond (ltb (s .events + 1) p) 9 (cond (ltb room (length (pieceText s p))) 14 0))
@@ -50,7 +52,7 @@ pub record WriteOutcome : Type 0 where
 abbrev pub written : WriteAnswer → List ℕ → WriteOutcome
 written a out = record { refusal = verdictNumber (a .verdict); length = a .length; output = out }
 
--- "The answer is the piece's length; the output behind it stays"; "A refusal changes no buffer ..; returned counts .. are 0"
+-- rules 44 and 51: the piece in front of the output's rest, or what a refusal leaves
 unfoldable pub writing : Store → ℕ → List ℕ → WriteOutcome
 writing s p out =
     cond (eqb (writeRefusal s p (length out)) 0)

@@ -21,7 +21,7 @@ use Rattle.lines.proofs.Entries.{rest-of}
 use Rattle.loglines.specs.Keys.{numberLine, tabletsKey}
 use Rattle.loglines.specs.Events.{lineBytes}
 use Rattle.loglines.proofs.Lines.{number-some, value-limit}
-use Rattle.text.specs.declared.steps.Step.{Step}
+use Rattle.text.specs.declared.standing.Step.{Step}
 use Rattle.text.specs.Reading.{refused, nothingRead, readOn}
 use Rattle.text.specs.Steps.{Placed, begunStep, halted}
 use Rattle.text.proofs.Halts.{halts}

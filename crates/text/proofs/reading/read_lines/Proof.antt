@@ -60,27 +60,27 @@ use Rattle.loglines.proofs.reader.moved.Symbol as moved-def
 use Rattle.loglines.proofs.reader.moved.Symbol.{name as #loglines·reader·moved}
 use Rattle.loglines.proofs.reader.moved.Met as moved-thm
 use Rattle.text.specs.declared.reading.ReadAnswer.{ReadAnswer}
-use Rattle.text.specs.declared.steps.Step.{Step}
+use Rattle.text.specs.declared.standing.Step.{Step}
 use Rattle.text.specs.Reading.{ReadOutcome, readOutcome, reading}
 use Rattle.text.specs.Steps.{begunStep, stoppedAt, readHere, StepTaken}
 use Rattle.text.proofs.Again.{LentAgain, lends-at, back-at}
 use Rattle.text.proofs.Points.{Point, Nearer, nearer-wf, stops, next, nearer, first-point, is-off, is-on}
 use Rattle.text.proofs.reading.ReadAnswer as N
 use Rattle.text.proofs.reading.ReadAnswer.Laws as N′
-use Rattle.text.proofs.steps.Step as S
-use Rattle.text.proofs.steps.Step.Laws as S′
-use Rattle.text.proofs.steps.begun as begun
-use Rattle.text.proofs.steps.begun.Symbol as begun-def
-use Rattle.text.proofs.steps.begun.Symbol.{name as #text·steps·begun}
-use Rattle.text.proofs.steps.begun.Met as begun-thm
+use Rattle.text.proofs.standing.Step as S
+use Rattle.text.proofs.standing.Step.Laws as S′
+use Rattle.text.proofs.standing.begun as begun
+use Rattle.text.proofs.standing.begun.Symbol as begun-def
+use Rattle.text.proofs.standing.begun.Symbol.{name as #text·standing·begun}
+use Rattle.text.proofs.standing.begun.Met as begun-thm
 use Rattle.text.proofs.reading.take_turn as turn
 use Rattle.text.proofs.reading.take_turn.Symbol as turn-def
 use Rattle.text.proofs.reading.take_turn.Symbol.{name as #text·reading·take-turn}
 use Rattle.text.proofs.reading.take_turn.Met as turn-thm
-use Rattle.text.proofs.steps.stopped as stopped
-use Rattle.text.proofs.steps.stopped.Symbol as stopped-def
-use Rattle.text.proofs.steps.stopped.Symbol.{name as #text·steps·stopped}
-use Rattle.text.proofs.steps.stopped.Met as stopped-thm
+use Rattle.text.proofs.standing.stopped as stopped
+use Rattle.text.proofs.standing.stopped.Symbol as stopped-def
+use Rattle.text.proofs.standing.stopped.Symbol.{name as #text·standing·stopped}
+use Rattle.text.proofs.standing.stopped.Met as stopped-thm
 use Rattle.text.proofs.reading.read_lines.Key.{name as #text·reading·read-lines}
 use Rattle.text.proofs.reading.read_lines as reads
 use Rattle.text.proofs.reading.read_lines.Statement as stated
@@ -306,7 +306,7 @@ module _ {M : Type 1} (𝓤 : URA M) (H : Heap 𝓤) (A : Atoms 𝓤) (W : Given
       abbrev Took : Step → Lasts turn.ended (κ₀, (ν₁ ∷ [], (ν₂ ∷ [], (ν₃ ∷ [], tt)))) lent → Type 0
       Took r ws = StepTaken (s .now) (t .at) (readHere (s .now) (t .opened) (t .at) (t .line) (storeOf (t .«record») (p .clocks) (p .held) (p .order))) r (ws .1 .1 .1 .1 .0) (ws .1 .1 .1 .1 .1 .0) (ws .1 .1 .1 .1 .1 .1 .0)
 
-  module _ (𝓣 : Tables 𝓤 H) (known-over : Triple 𝓤 (𝓣 .C #loglines·reader·over) (Over 𝓤 H A mem run)) (known-moved : Triple 𝓤 (𝓣 .C #loglines·reader·moved) (Moved 𝓤 H A mem run)) (known-begun : Triple 𝓤 (𝓣 .C #text·steps·begun) (Begun 𝓤 H A mem run)) (known-turn : Triple 𝓤 (𝓣 .C #text·reading·take-turn) (Turned 𝓤 H A mem run)) (known-stopped : Triple 𝓤 (𝓣 .C #text·steps·stopped) (Stopped 𝓤 H A mem run))
+  module _ (𝓣 : Tables 𝓤 H) (known-over : Triple 𝓤 (𝓣 .C #loglines·reader·over) (Over 𝓤 H A mem run)) (known-moved : Triple 𝓤 (𝓣 .C #loglines·reader·moved) (Moved 𝓤 H A mem run)) (known-begun : Triple 𝓤 (𝓣 .C #text·standing·begun) (Begun 𝓤 H A mem run)) (known-turn : Triple 𝓤 (𝓣 .C #text·reading·take-turn) (Turned 𝓤 H A mem run)) (known-stopped : Triple 𝓤 (𝓣 .C #text·standing·stopped) (Stopped 𝓤 H A mem run))
       (room : Room u8 (length (s .now))) (room₁ : Room u8 (length (clocks .now))) (room₂ : Room u16 (length (held .now))) (room₃ : Room u8 (length (order .now))) where
     abbrev C : Calls 𝓤 H
     C = 𝓣 .C
@@ -482,7 +482,7 @@ module _ {M : Type 1} (𝓤 : URA M) (H : Heap 𝓤) (A : Atoms 𝓤) (W : Given
         looping l₀ l₁ l₂ l₃ l₄ l₅ l₆ l₇ l₈ l₉ l₁₀ l₁₁ l₁₂ l₁₃ l₁₄ l₁₅ l₁₆ l₁₇ l₁₈
         (first-point (s .now) (clocks .now) (held .now) (order .now) full t f (subst (Is S.the-row t) (LL.tells S.the-type S′.the-laws t _ is-t) is-t)))))))))))))))))))))))))))))
 
-module _ {M : Type 1} (𝓤 : URA M) (H : Heap 𝓤) (A : Atoms 𝓤) (W : Given 𝓤 H A) (mem : Memory → SProp 𝓤) (run : Routine → Fun 𝓤) (𝓣 : Tables 𝓤 H) (known-over : Triple 𝓤 (𝓣 .C #loglines·reader·over) (Over 𝓤 H A mem run)) (known-moved : Triple 𝓤 (𝓣 .C #loglines·reader·moved) (Moved 𝓤 H A mem run)) (known-begun : Triple 𝓤 (𝓣 .C #text·steps·begun) (Begun 𝓤 H A mem run)) (known-turn : Triple 𝓤 (𝓣 .C #text·reading·take-turn) (Turned 𝓤 H A mem run)) (known-stopped : Triple 𝓤 (𝓣 .C #text·steps·stopped) (Stopped 𝓤 H A mem run)) where
+module _ {M : Type 1} (𝓤 : URA M) (H : Heap 𝓤) (A : Atoms 𝓤) (W : Given 𝓤 H A) (mem : Memory → SProp 𝓤) (run : Routine → Fun 𝓤) (𝓣 : Tables 𝓤 H) (known-over : Triple 𝓤 (𝓣 .C #loglines·reader·over) (Over 𝓤 H A mem run)) (known-moved : Triple 𝓤 (𝓣 .C #loglines·reader·moved) (Moved 𝓤 H A mem run)) (known-begun : Triple 𝓤 (𝓣 .C #text·standing·begun) (Begun 𝓤 H A mem run)) (known-turn : Triple 𝓤 (𝓣 .C #text·reading·take-turn) (Turned 𝓤 H A mem run)) (known-stopped : Triple 𝓤 (𝓣 .C #text·standing·stopped) (Stopped 𝓤 H A mem run)) where
   lines-walk : Walks 𝓤 H A reads.ended stayed (WpFn 𝓤 H (𝓣 .C) (𝓣 .Λ) code.function) (reads.clauses 𝓤 H A mem run)
   lines-walk = walked 𝓤 H A reads.ended stayed (reads.clauses 𝓤 H A mem run) (WpFn 𝓤 H (𝓣 .C) (𝓣 .Λ) code.function)
       (λ κs. (slice-vals, (slice-vals, (slice-vals, (slice-vals, tt)))))
@@ -504,6 +504,6 @@ read-lines-spec 𝓤 H 𝓜 𝓖 𝓡 =
     (lines-meet 𝓤 H (𝓖 .A) (givenOf 𝓤 H 𝓜 𝓖) (𝓜 .mem) (𝓡 .run) (tablesOf 𝓤 H 𝓜 (tables 𝓤 H 𝓜 𝓡 code.env))
     (cited 𝓤 H (Over 𝓤 H (𝓖 .A) (𝓜 .mem) (𝓡 .run)) 𝓜 𝓡 code.env #loglines·reader·over over-def.routine code.calls-loglines·reader·over (over-thm.met 𝓤 H 𝓜 𝓖 𝓡))
     (cited 𝓤 H (Moved 𝓤 H (𝓖 .A) (𝓜 .mem) (𝓡 .run)) 𝓜 𝓡 code.env #loglines·reader·moved moved-def.routine code.calls-loglines·reader·moved (moved-thm.met 𝓤 H 𝓜 𝓖 𝓡))
-    (cited 𝓤 H (Begun 𝓤 H (𝓖 .A) (𝓜 .mem) (𝓡 .run)) 𝓜 𝓡 code.env #text·steps·begun begun-def.routine code.calls-text·steps·begun (begun-thm.met 𝓤 H 𝓜 𝓖 𝓡))
+    (cited 𝓤 H (Begun 𝓤 H (𝓖 .A) (𝓜 .mem) (𝓡 .run)) 𝓜 𝓡 code.env #text·standing·begun begun-def.routine code.calls-text·standing·begun (begun-thm.met 𝓤 H 𝓜 𝓖 𝓡))
     (cited 𝓤 H (Turned 𝓤 H (𝓖 .A) (𝓜 .mem) (𝓡 .run)) 𝓜 𝓡 code.env #text·reading·take-turn turn-def.routine code.calls-text·reading·take-turn (turn-thm.met 𝓤 H 𝓜 𝓖 𝓡))
-    (cited 𝓤 H (Stopped 𝓤 H (𝓖 .A) (𝓜 .mem) (𝓡 .run)) 𝓜 𝓡 code.env #text·steps·stopped stopped-def.routine code.calls-text·steps·stopped (stopped-thm.met 𝓤 H 𝓜 𝓖 𝓡)))
+    (cited 𝓤 H (Stopped 𝓤 H (𝓖 .A) (𝓜 .mem) (𝓡 .run)) 𝓜 𝓡 code.env #text·standing·stopped stopped-def.routine code.calls-text·standing·stopped (stopped-thm.met 𝓤 H 𝓜 𝓖 𝓡)))

@@ -5,9 +5,9 @@ use borrow.Author.Needs.{needs}
 use Rattle.model.specs.declared.Record.{Record}
 use Rattle.model.specs.declared.Verdict.the-variants.{Passed}
 use Rattle.model.specs.Lists.{zeros}
-use Rattle.text.specs.declared.steps.Step.{Step}
-use Rattle.text.proofs.steps.begun.Statement.{statement}
-use Rattle.text.proofs.steps.begun.Tie as tie
+use Rattle.text.specs.declared.standing.Step.{Step}
+use Rattle.text.proofs.standing.begun.Statement.{statement}
+use Rattle.text.proofs.standing.begun.Tie as tie
 
 no-record-requires : tie.Need-no-record-requires
 no-record-requires c κs = search needs

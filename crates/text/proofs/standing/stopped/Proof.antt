@@ -5,10 +5,10 @@ use borrow.Author.Needs.{needs}
 use Rattle.model.proofs.Refusals.{passed-zero, refused-some}
 use Rattle.model.specs.Refusals.{verdictNumber}
 use Rattle.text.specs.declared.reading.ReadAnswer.{ReadAnswer}
-use Rattle.text.specs.declared.steps.Step.{Step}
+use Rattle.text.specs.declared.standing.Step.{Step}
 use Rattle.text.proofs.Halts.{named-refused, named-passed}
-use Rattle.text.proofs.steps.stopped.Statement.{statement}
-use Rattle.text.proofs.steps.stopped.Tie as tie
+use Rattle.text.proofs.standing.stopped.Statement.{statement}
+use Rattle.text.proofs.standing.stopped.Tie as tie
 
 abbrev answer : Step → ℕ → ReadAnswer
 answer t line = record { verdict = t .verdict; line = line; «record» = t .«record» }
