@@ -329,8 +329,8 @@ pub(crate) fn read_aside(book: &Book, length: u64) -> Told {
     read_part(&text, length, &mut clocks, &mut held, &mut order, 0)
 }
 
-// Reads the first bytes of the book's text. What the store holds afterwards is the day's first events, so many as are wanted, which
-// then are the day.
+// Reads the first bytes of the book's text. What the store holds afterwards is the day's first events, so many as are wanted,
+// which then are the day.
 pub(crate) fn read_first(book: &mut Book, length: u64, last: u64) -> Told {
     let mut text = [0u8; 122880];
     lay_text(book, &mut text);

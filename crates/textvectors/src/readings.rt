@@ -76,7 +76,8 @@ fn line_of(book: &Book, at: u64) -> u64 {
     line
 }
 
-// What is said where the byte at an index is the first that is wrong: the events whose three lines stand before its line are stored.
+// What is said where the byte at an index is the first that is wrong: the events whose three lines stand before its line are
+// stored.
 fn faulty(book: &Book, at: u64) -> Told {
     let line = line_of(book, at);
     if line < 2 {
