@@ -1,4 +1,6 @@
 // The lines that `cutcheck` prints for an answer, one behind the other in the output. Nothing here knows a store.
+#![tactic(auto)]
+
 ghost use Rattle.std.specs.Prelude.{◌≡◌, List, ℕ, ◌+◌, ◌*◌, ◌≤◌, length};
 ghost use Rattle.model.specs.Lists.{at};
 ghost use Rattle.pieces.specs.Pieces.{piece_room, grown, empty_piece};

@@ -1,4 +1,6 @@
 // The ask line, the first that `cutcheck` reads: one of three questions, put to the whole trace that follows.
+#![tactic(auto)]
+
 mod sets;
 
 ghost use Rattle.std.specs.Prelude.{◌≡◌};
@@ -16,7 +18,7 @@ const EXACTLY: [u8; 12] = *b"ask=exactly,";
 const ALL: [u8; 8] = *b"ask=all,";
 
 // What an ask line says.
-#[derive(Drop)]
+#[derive(Clone, Copy)]
 pub enum AskLine {
     Ask(Question),
     Faulty,

@@ -10,7 +10,7 @@ use model::Tablet;
 const BITS: [u8; 8] = [1, 2, 4, 8, 16, 32, 64, 128];
 
 // What a list of tablets names, where it is one.
-#[derive(Drop)]
+#[derive(Clone, Copy)]
 pub(crate) struct Named {
     pub fits: bool,
     pub mask: u8,

@@ -1,5 +1,7 @@
 // Reads standard input, a question and a trace text, and writes what the crate `report` makes of it. All that is proved of
 // the answer is proved there; here only that nothing is out of bounds and that the program ends.
+#![tactic(auto)]
+
 use libc::{STDERR_FILENO, STDIN_FILENO, STDOUT_FILENO};
 use report::{CLOCKS_SIZE, INPUT_SIZE, OUTPUT_SIZE, SLOTS};
 

@@ -1,6 +1,8 @@
 // Consistent cuts of a stored trace: listing, counting, asking, gathering.
 // Each public call tests the store before all else and refuses by the numbers of rule 52; what it answers is fixed by its
 // contract for all inputs.
+#![tactic(auto)]
+
 mod gatherer;
 pub mod inner;
 mod lister;
@@ -18,7 +20,7 @@ use lister::{list_interval, refused_listing};
 use model::{Cut, Job, Place, Position, Record, Refusal, Verdict};
 
 // The number of cuts, or a refusal with 0.
-#[derive(Drop)]
+#[derive(Clone, Copy)]
 pub struct Counted {
     pub verdict: Verdict,
     pub count: u64,
@@ -44,14 +46,14 @@ pub fn count(
 }
 
 // What asking answers: a cut was found, or there is none, or it was refused.
-#[derive(Drop)]
+#[derive(Clone, Copy)]
 pub enum Answer {
     Found,
     NoCut,
     Refused(Refusal),
 }
 
-#[derive(Drop)]
+#[derive(Clone, Copy)]
 pub struct Asked {
     pub answer: Answer,
     pub cut: Cut,
@@ -68,14 +70,14 @@ pub fn ask(record: Record, clocks: &[u8], held: &[u16], order: &[u8], job: Job) 
 }
 
 // What a listing says: the interval has no later cut, or more, or it was refused.
-#[derive(Drop)]
+#[derive(Clone, Copy)]
 pub enum Listing {
     Done,
     More,
     Refused(Refusal),
 }
 
-#[derive(Drop)]
+#[derive(Clone, Copy)]
 pub struct Listed {
     pub answer: Listing,
     pub written: usize,
@@ -102,7 +104,7 @@ pub fn list(
 }
 
 // What a listing answers where its place was lent.
-#[derive(Drop)]
+#[derive(Clone, Copy)]
 pub struct Moved {
     pub answer: Listing,
     pub written: usize,
@@ -131,7 +133,7 @@ pub fn list_moving(
 
 // What a gathering answers: whether all cuts of the intervals are there, how many are, and where it stopped: the interval of
 // the last cut written and the place behind that cut, from which `list` goes on.
-#[derive(Drop)]
+#[derive(Clone, Copy)]
 pub struct Gathered {
     pub answer: Listing,
     pub written: usize,

@@ -6,7 +6,7 @@ use model::{Cut, Position, Range, Record};
 use steps::spans::{Span, interval_span, tallies_after, trace_span};
 
 // Not known where its position is above T.
-#[derive(Drop)]
+#[derive(Clone, Copy)]
 pub(crate) struct Ranged {
     pub known: bool,
     pub span: Span,

@@ -1,5 +1,7 @@
 // Counting, listing and the whole report for programs in other languages: calls of `cuts` and `report` under names and with
 // parameters that C and Rust can declare.
+#![tactic(auto)]
+
 ghost use Rattle.std.specs.Prelude.{◌≡◌};
 ghost use Rattle.cuts.specs.Outcomes.{counting};
 ghost use Rattle.cuts.specs.Listing.{listing, fresh};

@@ -6,7 +6,7 @@ use crate::find::find_byte;
 use crate::numbers::{Number, read_number};
 
 // What a text says as a list; the values behind the listed ones are 0.
-#[derive(Drop)]
+#[derive(Clone, Copy)]
 pub struct Listed {
     pub fits: bool,
     pub values: [u8; 8],

@@ -1,41 +1,42 @@
 // The values that every call of the library takes and gives. What they mean is defined in specs/.
+#![tactic(auto)]
 
 // Three kinds of count, a type each, and a fourth that looks like the third.
 
 // A tablet's number, from 1. 0 and numbers above n stand in it only as they are offered, in an event that is then refused, or
 // in a store that is then found not valid.
-#[derive(Drop)]
+#[derive(Clone, Copy)]
 pub struct Tablet(pub u8);
 
 // An event's number on its tablet, from 1. Where the last event of a tablet is meant, 0 says that there is none yet.
-#[derive(Drop)]
+#[derive(Clone, Copy)]
 pub struct EventNumber(pub u8);
 
 // A position in the trace: the event accepted first has 1. Where an interval is meant, 0 is the interval of the empty cut; where
 // the events up to a position are meant, 0 is before the first.
-#[derive(Drop)]
+#[derive(Clone, Copy)]
 pub struct Position(pub u16);
 
 // A piece of the text of a store: 0 is the `tablets` line, 1 to T the lines of the event at that position, T + 1 the `events`
 // line. So it is no position: its first and its last are no event's.
-#[derive(Drop)]
+#[derive(Clone, Copy)]
 pub struct PieceNumber(pub u16);
 
 // A cut: for each of eight tablets, how many of its events have happened. Entries above the number of tablets are zero.
-#[derive(Drop)]
+#[derive(Clone, Copy)]
 pub struct Cut {
     pub counts: [u8; 8],
 }
 
 // What goes with the three lent buffers of a store: the number of tablets, n, and of accepted events, T.
-#[derive(Drop)]
+#[derive(Clone, Copy)]
 pub struct Record {
     pub tablets: u8,
     pub events: u16,
 }
 
 // An event as a tablet logs it: who, what it knew, and how many blocks it holds afterwards.
-#[derive(Drop)]
+#[derive(Clone, Copy)]
 pub struct Event {
     pub tablet: Tablet,
     pub clock: [u8; 8],
@@ -43,14 +44,14 @@ pub struct Event {
 }
 
 // Where a listing stands: nowhere yet, or just behind a cut. The cut of a place that is not begun is ignored.
-#[derive(Drop)]
+#[derive(Clone, Copy)]
 pub struct Place {
     pub begun: bool,
     pub cut: Cut,
 }
 
 // What is asked of a cut. A set of tablets is a mask: tablet 1 is its lowest bit.
-#[derive(Drop)]
+#[derive(Clone, Copy)]
 pub enum Question {
     AtLeast(u32),
     Exactly(u32),
@@ -58,21 +59,21 @@ pub enum Question {
 }
 
 // The cuts that a question is put to.
-#[derive(Drop)]
+#[derive(Clone, Copy)]
 pub enum Range {
     Interval(Position),
     Whole,
 }
 
 // A question, and the cuts that it is put to.
-#[derive(Drop)]
+#[derive(Clone, Copy)]
 pub struct Job {
     pub question: Question,
     pub range: Range,
 }
 
 // The refusals, in the order of their numbers, 1 to 15.
-#[derive(Drop)]
+#[derive(Clone, Copy)]
 pub enum Refusal {
     NoSuchTabletCount,
     ShortBuffer,
@@ -92,7 +93,7 @@ pub enum Refusal {
 }
 
 // What a call that only tests has found.
-#[derive(Drop)]
+#[derive(Clone, Copy)]
 pub enum Verdict {
     Passed,
     Refused(Refusal),

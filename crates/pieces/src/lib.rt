@@ -1,5 +1,7 @@
 // The bytes of a line that is being written, kept by value until it is known whether the caller's output has room for them.
 // Each function puts more bytes behind those that a piece has; the caller shows that they fit.
+#![tactic(auto)]
+
 ghost use Rattle.std.specs.Prelude.{◌≡◌, [], ◌∷◌, ◌+◌, ◌≤◌, ◌<◌, length, take, drop};
 ghost use Rattle.std.proofs.lemmas.List.Edits.{sets};
 ghost use Rattle.lines.specs.Numbers.{decimal};
@@ -10,7 +12,7 @@ ghost use Rattle.pieces.specs.Lines.{key_line, list_line, pair_line};
 // How many bytes a piece has room for: `piece_room` of the contracts.
 pub const ROOM: usize = 96;
 
-#[derive(Drop)]
+#[derive(Clone, Copy)]
 pub struct Piece {
     pub length: usize,
     pub bytes: [u8; ROOM],
@@ -57,7 +59,7 @@ pub fn put_bytes(piece: Piece, text: &[u8]) -> Piece
 }
 
 // The digits of a number, at the end of twenty bytes: a number of 64 bits has no more.
-#[derive(Drop)]
+#[derive(Clone, Copy)]
 struct Digits {
     from: usize,
     bytes: [u8; 20],

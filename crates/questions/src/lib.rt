@@ -1,4 +1,6 @@
 // What a question asks of one cut, and whether it can be put at all.
+#![tactic(auto)]
+
 mod holdings;
 mod sets;
 

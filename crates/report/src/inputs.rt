@@ -5,7 +5,7 @@ ghost use Rattle.report.specs.Report.{looking};
 use askline::{AskLine, read_ask};
 use model::{Question, Refusal};
 
-#[derive(Drop)]
+#[derive(Clone, Copy)]
 pub(crate) enum Look {
     Asks(Question),
     Refuses(Refusal),

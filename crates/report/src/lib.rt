@@ -1,4 +1,6 @@
 // What `cutcheck` prints: from the bytes of its input to the bytes of its output, over lent buffers.
+#![tactic(auto)]
+
 mod answers;
 mod inputs;
 mod refusals;
@@ -24,7 +26,7 @@ pub const CLOCKS_SIZE: usize = 8 * SLOTS;
 
 // What a report answers: "answered" or a refusal with its line, and how many bytes at the front of the output are to be
 // printed.
-#[derive(Drop)]
+#[derive(Clone, Copy)]
 pub struct Reported {
     pub verdict: Verdict,
     pub line: usize,

@@ -8,7 +8,7 @@ use model::{Position, Record, Verdict};
 use steps::spans::tally_next;
 
 // The sum, where it fits 64 bits.
-#[derive(Drop)]
+#[derive(Clone, Copy)]
 pub(crate) struct Totals {
     pub fits: bool,
     pub sum: u64,

@@ -1,5 +1,7 @@
 // Runs each day of data/ through the crate `report` and compares what it makes, byte by byte, with the answer stored
 // beside the day. One line for each day: its name and `same`, or where the two first differ.
+#![tactic(auto)]
+
 ghost use Rattle.std.specs.Prelude.{◌≤◌};
 ghost use Rattle.io.specs.Counts.{IsPrefixLen};
 

@@ -8,7 +8,7 @@ use model::{Cut, EventNumber, Position, Tablet};
 use store::inner::slot_of;
 
 // The least and the greatest cut of a range.
-#[derive(Drop)]
+#[derive(Clone, Copy)]
 pub struct Span {
     pub low: Cut,
     pub high: Cut,

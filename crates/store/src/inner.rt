@@ -41,7 +41,7 @@ pub fn write_eight(bytes: &mut [u8], from: usize, eight: [u8; 8])
 }
 
 // What an append answers: whether the event was taken, the record that goes on, and the tallies that go with it.
-#[derive(Drop)]
+#[derive(Clone, Copy)]
 pub struct Appended {
     pub verdict: Verdict,
     pub record: Record,

@@ -1,6 +1,8 @@
 // The store of a trace over the caller's three buffers: opening, accepting events, checking.
 // Each public call tests all that it is given and refuses by the numbers of rule 52; what it answers and leaves in every
 // buffer is fixed by its contract for all inputs.
+#![tactic(auto)]
+
 pub mod inner;
 mod testing;
 mod writing;
@@ -15,7 +17,7 @@ use model::{Event, Record, Verdict};
 use testing::{record_verdict, test_store};
 
 // What opening and accepting answer: whether it was taken, and the record that goes on.
-#[derive(Drop)]
+#[derive(Clone, Copy)]
 pub struct Taken {
     pub verdict: Verdict,
     pub record: Record,

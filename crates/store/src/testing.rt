@@ -8,7 +8,7 @@ use model::{Record, Refusal, Tablet, Verdict};
 use rules::follow::stored_verdict;
 
 // Whether the events each may follow; where they do, the tallies after them.
-#[derive(Drop)]
+#[derive(Clone, Copy)]
 pub(crate) struct Run {
     pub passed: bool,
     pub counts: [u8; 8],
@@ -40,7 +40,7 @@ pub(crate) fn follow_all(n: u8, events: usize, clocks: &[u8], order: &[u8]) -> R
 }
 
 // What the test of a whole store has found; where it passed, the tallies.
-#[derive(Drop)]
+#[derive(Clone, Copy)]
 pub(crate) struct Tested {
     pub verdict: Verdict,
     pub counts: [u8; 8],

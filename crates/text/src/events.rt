@@ -34,7 +34,7 @@ fn read_end(src: &[u8], at: usize, line: usize, last: Step) -> Step
 
 // What became of an event's lines: taken, or refused at the first, second or third of them (line 0, 1 or 2), with so many
 // bytes before it.
-#[derive(Drop)]
+#[derive(Clone, Copy)]
 pub(crate) struct Turn {
     pub verdict: Verdict,
     pub line: usize,

@@ -1,5 +1,7 @@
 // The trace text: a text is read into the caller's three buffers, and a store is written as text, piece by piece. Writing is
 // in the crate `writer` and passed on here.
+#![tactic(auto)]
+
 mod events;
 mod head;
 pub mod reading;

@@ -13,7 +13,7 @@ use model::{Record, Verdict};
 
 // What reading answers: "read" or a refusal with its line, and the record that goes with what was stored. A text that was
 // read names line 0.
-#[derive(Drop)]
+#[derive(Clone, Copy)]
 pub struct ReadAnswer {
     pub verdict: Verdict,
     pub line: usize,

@@ -8,7 +8,7 @@ use store::inner::no_record;
 
 // What a turn leaves: whether another is to follow, the offset and line that the reader is to be moved to, and what goes with
 // the store. A refusal's offset and line are those of the line that it names. The head opens the record.
-#[derive(Drop)]
+#[derive(Clone, Copy)]
 pub(crate) struct Step {
     pub more: bool,
     pub at: usize,

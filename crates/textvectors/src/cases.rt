@@ -18,7 +18,7 @@ fn input(book: &Book, at: u64) -> u64 {
 }
 
 // A number of the header and the index behind the byte that ends it.
-#[derive(Drop)]
+#[derive(Clone, Copy)]
 struct Parsed {
     value: u64,
     next: u64,
@@ -41,7 +41,7 @@ fn number_at(book: &Book, from: u64) -> Parsed {
     }
 }
 
-#[derive(Drop)]
+#[derive(Clone, Copy)]
 struct Header {
     want: Told,
     next: u64,

@@ -115,7 +115,7 @@ fn compare_cells(book: &mut Book, clocks: &Bytes, held: &Words, order: &Bytes) {
 }
 
 // What writing said: its number, 0 for none, and how many bytes.
-#[derive(Drop)]
+#[derive(Clone, Copy)]
 pub(crate) struct Wrote {
     pub number: u64,
     pub length: u64,
@@ -129,7 +129,7 @@ fn unwritten() -> Wrote {
 }
 
 // Which piece is asked for, the bytes that are lent for it, and what `SHORT` says.
-#[derive(Drop)]
+#[derive(Clone, Copy)]
 struct Asked {
     p: u64,
     length: u64,
@@ -217,7 +217,7 @@ pub(crate) fn write_piece(book: &mut Book, p: u64, length: u64) -> Wrote {
 }
 
 // What reading said.
-#[derive(Drop)]
+#[derive(Clone, Copy)]
 pub(crate) struct Told {
     pub number: u64,
     pub line: u64,

@@ -1,5 +1,7 @@
 // Document 01's cases of texts, and the library's writing and reading beside a second writer: run and compared. What is printed
 // are counts of what was compared; a difference is printed with its text, so that the stored output matches only where all agree.
+#![tactic(auto)]
+
 mod cases;
 mod cells;
 mod day;

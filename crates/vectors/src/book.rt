@@ -97,7 +97,7 @@ pub(crate) fn clear(book: &mut Book, n: u64) {
 }
 
 // An event as the program writes it down.
-#[derive(Drop)]
+#[derive(Clone, Copy)]
 pub(crate) struct Row {
     pub tablet: u64,
     pub clock: u64,

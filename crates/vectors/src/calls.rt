@@ -61,7 +61,7 @@ fn answer_word(answer: Answer) -> u64 {
 }
 
 // What a call said: its word, how many it wrote or counted, a place or a cut, and the position where a gathering stopped.
-#[derive(Drop)]
+#[derive(Clone, Copy)]
 pub(crate) struct Said {
     pub word: u64,
     pub number: u64,
@@ -91,7 +91,7 @@ fn call_check(record: Record, clocks: &[u8], held: &[u16], order: &[u8]) -> Said
 }
 
 // What accepting said, and the record that goes on.
-#[derive(Drop)]
+#[derive(Clone, Copy)]
 pub(crate) struct Offered {
     pub word: u64,
     pub record: Record,
@@ -129,7 +129,7 @@ fn call_count(record: Record, clocks: &[u8], held: &[u16], order: &[u8], request
 
 // What is asked of a store: which call, the interval (`WHOLE` for the whole trace), the last interval of a gathering, the place,
 // the bytes that are lent, the question.
-#[derive(Drop)]
+#[derive(Clone, Copy)]
 pub(crate) struct Request {
     pub call: u64,
     pub p: u64,

@@ -52,7 +52,7 @@ pub(crate) fn compare_rest(book: &mut Book, count: u64, length: u64) {
 
 // What is listed: interval p, of so many cuts by the second lister, which stand in a list of the book, into outputs of so many
 // bytes.
-#[derive(Drop)]
+#[derive(Clone, Copy)]
 pub(crate) struct Plan {
     pub p: u64,
     pub list: u64,
@@ -61,7 +61,7 @@ pub(crate) struct Plan {
 }
 
 // How far a listing has come: behind so many cuts, and the place.
-#[derive(Drop)]
+#[derive(Clone, Copy)]
 pub(crate) struct Stand {
     pub seen: u64,
     pub begun: bool,

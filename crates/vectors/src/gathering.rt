@@ -21,7 +21,7 @@ pub(crate) fn gathering(first: u64, last: u64, length: u64) -> Request {
 }
 
 // How far a gathering has come: behind so many cuts written, of so many in all; the last of them and its interval.
-#[derive(Drop)]
+#[derive(Clone, Copy)]
 struct Reach {
     seen: u64,
     all: u64,

@@ -138,7 +138,7 @@ fn keep_written(book: &mut Book, out: &Output, length: u64, at: u64) {
 }
 
 // How many cells of each buffer are lent, as `SHORT` says.
-#[derive(Drop)]
+#[derive(Clone, Copy)]
 struct Lent {
     clocks: usize,
     held: usize,

@@ -1,5 +1,7 @@
 // Document 01's cases of stores and cuts and a second lister, run beside the library and compared. What is printed are counts
 // of what was compared; a difference is printed with its trace, so that the stored output matches only where all agree.
+#![tactic(auto)]
+
 mod book;
 mod calls;
 mod cells;

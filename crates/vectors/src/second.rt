@@ -210,7 +210,7 @@ pub(crate) const EXACTLY: u64 = 1;
 
 pub(crate) const SET: u64 = 2;
 
-#[derive(Drop)]
+#[derive(Clone, Copy)]
 pub(crate) struct Asking {
     pub question: u64,
     pub k: u64,

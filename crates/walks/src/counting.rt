@@ -9,7 +9,7 @@ use steps::lex::next_cut;
 use steps::spans::Span;
 
 // Whether the number of cuts fits 64 bits; where it does, the number.
-#[derive(Drop)]
+#[derive(Clone, Copy)]
 pub struct Tally {
     pub fits: bool,
     pub count: u64,

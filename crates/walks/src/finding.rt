@@ -12,7 +12,7 @@ use steps::lex::next_cut;
 use steps::spans::Span;
 
 // The cut, or that there is none.
-#[derive(Drop)]
+#[derive(Clone, Copy)]
 pub struct First {
     pub found: bool,
     pub cut: Cut,

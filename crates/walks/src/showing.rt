@@ -10,7 +10,7 @@ use steps::spans::Span;
 use store::inner::write_eight;
 
 // What was written: how many cuts, the place behind the last of them, and whether more stand behind it.
-#[derive(Drop)]
+#[derive(Clone, Copy)]
 pub struct Shown {
     pub written: usize,
     pub place: Place,

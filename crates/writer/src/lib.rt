@@ -1,4 +1,6 @@
 // A store written as text, piece by piece: each piece is put together by value, and copied where the output has room for it.
+#![tactic(auto)]
+
 mod writing;
 
 ghost use Rattle.std.specs.Prelude.{◌≡◌};
@@ -10,7 +12,7 @@ use pieces::copy_out;
 use writing::piece_of;
 
 // What writing a piece answers: its length, or a refusal and 0.
-#[derive(Drop)]
+#[derive(Clone, Copy)]
 pub struct WriteAnswer {
     pub verdict: Verdict,
     pub length: usize,
