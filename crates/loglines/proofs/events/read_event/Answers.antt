@@ -31,14 +31,14 @@ slice_bounds-read_clock-count c =
     let tablet_is : number_line tablet_key 255 c.args.text.now ≡ Value c.in-Value.tablet = sym c.number_line.ensures ∙ c.in-Value.is in
     let inside : line_length c.args.text.now < length c.args.text.now = number_inside tablet_key 255 c.args.text.now c.in-Value.tablet tablet_is in
     let next_fits : c.line_length-next.result + 1 ≤ length c.args.text.now = omega (arith, c.line_length-next.ensures, inside) in
-    next_fits (c)
+    next_fits
 
 pub slice_bounds-read_clock-start : goal.slice_bounds-read_clock-start
 slice_bounds-read_clock-start c =
     let tablet_is : number_line tablet_key 255 c.args.text.now ≡ Value c.in-Value.tablet = sym c.number_line.ensures ∙ c.in-Value.is in
     let inside : line_length c.args.text.now < length c.args.text.now = number_inside tablet_key 255 c.args.text.now c.in-Value.tablet tablet_is in
     let next_fits : c.line_length-next.result + 1 ≤ length c.args.text.now = omega (arith, c.line_length-next.ensures, inside) in
-    next_fits (c)
+    next_fits
 
 pub read_clock-requires : goal.read_clock-requires
 read_clock-requires c =
