@@ -1,0 +1,11 @@
+-- `starts_with`: the bytes passed are equal, so the rest decides.
+use mathlib.Core.Path.{◌≡◌, refl, sym, ◌∙◌}
+use Prim.Native.Nat.{◌-◌, ◌≤◌}
+use native.Mathlib.Omega.{arith}
+use lib.ListN.{length, drop}
+use Rattle.lines.specs.Find.{starts_with}
+use Rattle.lines.proofs.Parts.{key_short, key_on, key_off, key_end}
+use Rattle.lines.proofs.find.starts_with.Goals as goal
+
+pub returns-then-text-key : goal.returns-then-text-key
+returns-then-text-key c = sym (key_short c.args.key.now c.args.text.now c.if-text-key.true)
