@@ -1,0 +1,20 @@
+-- `stored_clock`: the bytes read so far are the clock's first entries.
+use mathlib.Core.Path.{◌≡◌, refl, sym, ◌∙◌}
+use mathlib.Core.Logic.{by_cases}
+use Prim.Native.Nat.{ℕ, ◌+◌, ◌-◌, ◌*◌, ◌≤◌, ◌<◌}
+use native.Mathlib.Omega.{arith}
+use native.Mathlib.Decide.{ℕ_discrete}
+use native.Mathlib.Nat.{not-suc-le-zero}
+use lib.ListN.{length, get_or, length-set}
+use lib.Seq.{get_or-set_same, get_or-set_other}
+use Rattle.model.specs.Lists.{at}
+use Rattle.model.specs.Clocks.{clock_in}
+use Rattle.model.proofs.Entries.{same_entries}
+use Rattle.model.proofs.Slots.{at_clock, clock_in_long}
+use Rattle.steps.proofs.spans.stored_clock.Goals as goal
+
+pub returns : goal.returns
+returns c =
+    let a = c.args in
+    same_entries c.loop-j.clock (clock_in a.clocks.now a.slot) c.loop-j.invariant.1 (clock_in_long a.clocks.now a.slot c.requires)
+    (λ i h. c.loop-j.invariant.2 i (omega arith) ∙ sym (at_clock a.clocks.now a.slot i h))
