@@ -1,5 +1,4 @@
 -- Laws of the definitions that the proofs of this crate's functions cite.
-pub mod Again
 pub mod Places
 pub mod Turns
 pub mod Halts
