@@ -10,6 +10,7 @@ ghost use Rattle.rules.specs.Reading.{Bounded, Comparable, Readable};
 use crate::clocks::{known_covered, slot_of};
 use model::{EventNumber, Refusal, Tablet, Verdict};
 
+#[tactic(auto, unfolding(model::specs::Follow::tablet_refusal))]
 fn tablet_verdict(n: u8, tallies: [u8; 8], tablet: Tablet) -> Verdict
     requires { n ≤ 8 }
     ensures { verdict_number result ≡ tablet_refusal n tallies tablet.0 }
