@@ -2,16 +2,21 @@
 // the answer is proved there; here only that nothing is out of bounds and that the program ends.
 #![tactic(auto)]
 
-use libc::{STDERR_FILENO, STDIN_FILENO, STDOUT_FILENO};
 use report::{CLOCKS_SIZE, INPUT_SIZE, OUTPUT_SIZE, SLOTS};
+
+// The file descriptor of standard input.
+const STDIN: i32 = 0;
+
+// The file descriptor of standard output.
+const STDOUT: i32 = 1;
+
+// The file descriptor of standard error.
+const STDERR: i32 = 2;
 
 // A program has no exit status, so a write that fails is said on standard error.
 fn put(answer: &[u8]) {
-    if !io::write_all(STDOUT_FILENO, answer) {
-        io::write_all(
-            STDERR_FILENO,
-            b"cutcheck: the answer could not be written\n",
-        );
+    if !io::write_all(STDOUT, answer) {
+        io::write_all(STDERR, b"cutcheck: the answer could not be written\n");
     }
 }
 
@@ -28,7 +33,7 @@ fn main() {
     let mut held = [0u16; SLOTS];
     let mut order = [0u8; SLOTS];
     let mut out = [0u8; OUTPUT_SIZE];
-    let length = io::read_full(STDIN_FILENO, &mut input);
+    let length = io::read_full(STDIN, &mut input);
     let reported = report::make_report(
         &input[..length],
         &mut clocks,

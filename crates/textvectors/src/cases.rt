@@ -3,12 +3,14 @@
 use crate::cells::{Book, INPUT, LENGTH, cell, keep_bytes, put, put_letter};
 use crate::lend::{Told, read_aside};
 use crate::notes::{CASES, FIXED, add_one, same, same_number};
-use libc::STDIN_FILENO;
 use std::num::{wrapping_add_u64, wrapping_sub_u64};
+
+// The file descriptor of standard input.
+const STDIN: i32 = 0;
 
 fn read_input(book: &mut Book) -> u64 {
     let mut input = [0u8; 8192];
-    let count = io::read_full(STDIN_FILENO, &mut input);
+    let count = io::read_full(STDIN, &mut input);
     keep_bytes(book, INPUT, &input);
     count as u64
 }

@@ -1,20 +1,22 @@
 // What the program writes.
 use crate::cells::{Book, LENGTH, cell, letter, low_byte};
-use libc::STDOUT_FILENO;
+
+// The file descriptor of standard output.
+const STDOUT: i32 = 1;
 
 fn say(words: &[u8]) {
-    io::write_all(STDOUT_FILENO, words);
+    io::write_all(STDOUT, words);
 }
 
 pub(crate) fn say_line(label: &[u8], n: u64) {
     say(label);
-    io::print_decimal(STDOUT_FILENO, n);
+    io::print_decimal(STDOUT, n);
     say(b"\n");
 }
 
 pub(crate) fn say_met(number: u64, times: u64) {
     say(b"refused ");
-    io::print_decimal(STDOUT_FILENO, number);
+    io::print_decimal(STDOUT, number);
     say_line(b"=", times);
 }
 

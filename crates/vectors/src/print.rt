@@ -1,14 +1,16 @@
 // What the program writes.
 use crate::book::{Row, events, row_at, tablets};
 use crate::cells::{Book, entry};
-use libc::STDOUT_FILENO;
+
+// The file descriptor of standard output.
+const STDOUT: i32 = 1;
 
 pub(crate) fn say(text: &[u8]) {
-    io::write_all(STDOUT_FILENO, text);
+    io::write_all(STDOUT, text);
 }
 
 pub(crate) fn say_number(n: u64) {
-    io::print_decimal(STDOUT_FILENO, n);
+    io::print_decimal(STDOUT, n);
 }
 
 // A label and a number on a line of their own.
@@ -21,7 +23,7 @@ pub(crate) fn say_line(label: &[u8], n: u64) {
 // A cut is printed as one number, its entries in two hexadecimal digits each: what is compared may be one.
 fn say_hex(label: &[u8], n: u64) {
     say(label);
-    io::print_hex(STDOUT_FILENO, n, 1);
+    io::print_hex(STDOUT, n, 1);
 }
 
 pub(crate) fn say_difference(kind: u64, want: u64, got: u64) {
