@@ -17,9 +17,9 @@ use Rattle.model.specs.Cuts.{interval}
 use Rattle.cuts.specs.declared.Listing.{Listing}
 use Rattle.cuts.specs.declared.Listing.TheVariants.{More}
 use Rattle.cuts.specs.declared.Listed.{Listed}
-use Rattle.cuts.specs.Listing.{flat, room, written, behind_all, Said, done, more, listing_number, listing_said, ListOutcome, listed, refused_listing, shown_from, list_in, fresh}
-use Rattle.cuts.specs.Gathering.{GatherOutcome, gathered, joined, stands_in, gathered_from}
-use Rattle.cuts.proofs.Members.{interval_wide, Wide, flat_long, flat_append}
+use Rattle.cuts.specs.Listing.{flat, room, written, behind_all, done, more, listing_number, listing_said, ListOutcome, listed, refused_listing, shown_from, list_in, fresh}
+use Rattle.cuts.specs.Gathering.{gathered, joined, stands_in, gathered_from}
+use Rattle.cuts.proofs.Members.{interval_wide, flat_long, flat_append}
 
 -- the joined intervals: each has its cuts behind those of the ones before it
 module _ (s : Store) (first : ℕ) where

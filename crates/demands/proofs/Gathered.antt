@@ -4,14 +4,11 @@ use mathlib.Core.Logic.{◌↔◌, ⊎_elim, by_cases}
 use mathlib.Core.Bool.{Bool, true, false, cond}
 use mathlib.Core.List.Memᴰ
 use mathlib.Core.List.{List, [], ◌∷◌, ◌++◌, Memᴰ}
-use Prim.Native.Nat.{ℕ, zero, suc, ◌+◌, ◌-◌, ◌*◌, ◌≤◌, ◌<◌}
+use Prim.Native.Nat.{ℕ, zero, suc, ◌+◌, ◌-◌, ◌≤◌, ◌<◌}
 use native.Mathlib.Omega.{arith}
 use native.Mathlib.Decide.{ℕ_discrete}
-use borrow.Author.Tests.{lt-ltb, le-ltb}
-use lib.Dec.{ltb}
-use lib.ListN.{length, take, length-append}
-use lib.Seq.{take_all}
-use Rattle.model.specs.declared.Verdict.{Verdict}
+use borrow.Author.Tests.{le-ltb}
+use lib.ListN.{length, length-append}
 use Rattle.model.specs.declared.Verdict.TheVariants.{Passed}
 use Rattle.model.specs.Lists.{sum_below}
 use Rattle.model.specs.Refusals.{verdict_number}
@@ -22,13 +19,11 @@ use Rattle.model.proofs.Questions.{interval_rising}
 use Rattle.model.proofs.Valid.{length_tallies}
 use Rattle.model.proofs.Intervals.{interval_literal}
 use Rattle.model.proofs.Partition.{cut_into, counts_add_up, in_one_interval}
-use Rattle.store.proofs.Ready.{tested_sound}
 use Rattle.store.proofs.Outcomes.{when_zero}
 use Rattle.walks.specs.Counting.{fits64}
 use Rattle.cuts.specs.declared.Counted.{Counted}
 use Rattle.cuts.specs.Outcomes.{CountOutcome, counted, count_in, counting}
-use Rattle.cuts.specs.Listing.{room, written, done, more, ListOutcome, shown_from, fresh}
-use Rattle.cuts.specs.Gathering.{GatherOutcome, joined, gathered_from, refused_gathering, gather_in, gathering}
+use Rattle.cuts.specs.Gathering.{joined, gathered_from, refused_gathering, gather_in, gathering}
 use Rattle.cuts.proofs.Members.{interval_long}
 use Rattle.demands.specs.Calls.{NoneTwice}
 use Rattle.demands.proofs.Rising.{rising_none_twice, append_none_twice}

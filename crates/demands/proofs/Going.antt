@@ -2,14 +2,14 @@
 -- wrote.
 use mathlib.Core.Path.{◌≡◌, refl, sym, ap, ap₂, ◌∙◌, subst}
 use mathlib.Core.Logic.{by_cases}
-use mathlib.Core.Bool.{Bool, true, false, cond, not, false≢true}
+use mathlib.Core.Bool.{Bool, true, false, cond, not}
 use mathlib.Core.List.{List, [], ◌∷◌, ◌++◌, append_assoc, Memᴰ}
-use Prim.Native.Nat.{ℕ, ◌+◌, ◌-◌, ◌*◌, ◌≤◌, ◌<◌}
+use Prim.Native.Nat.{ℕ, ◌+◌, ◌-◌, ◌*◌, ◌≤◌}
 use native.Mathlib.Omega.{arith}
 use native.Mathlib.Decide.{dec_le}
 use borrow.Author.Tests.{lt-ltb, le-ltb}
-use lib.Dec.{T, ltb}
-use lib.ListN.{length, take, drop, length-append, length-take, length-drop, take-append-drop}
+use lib.Dec.{ltb}
+use lib.ListN.{length, take, drop, length-take, length-drop, take-append-drop}
 use lib.Seq.{take_at, take-add, take-nil, drop-nil}
 use Rattle.model.specs.declared.Place.{Place}
 use Rattle.model.specs.Lists.{keep}
@@ -19,7 +19,7 @@ use Rattle.model.specs.Cuts.{interval}
 use Rattle.model.proofs.Tests.{holds}
 use Rattle.model.proofs.Questions.{interval_rising}
 use Rattle.store.proofs.Outcomes.{when_zero}
-use Rattle.cuts.specs.Listing.{flat, room, behind_all, Said, done, more, ListOutcome, refused_listing, shown_from, list_of, in_interval, list_in, listing}
+use Rattle.cuts.specs.Listing.{flat, room, behind_all, done, more, ListOutcome, refused_listing, shown_from, list_of, in_interval, list_in, listing}
 use Rattle.cuts.proofs.Members.{Wide, interval_wide, flat_long, flat_append, interval_long, interval_test}
 use Rattle.cuts.proofs.Gathering.{behind_append}
 use Rattle.demands.specs.Calls.{Listable, behind_place, front, wrote_all, last_says, Roomy, rooms}

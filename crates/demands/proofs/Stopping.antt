@@ -2,14 +2,14 @@
 use mathlib.Core.Path.{◌≡◌, refl, sym, ap, ap₂, ◌∙◌, subst}
 use mathlib.Core.Logic.{by_cases}
 use mathlib.Core.Bool.{true, false≢true}
-use mathlib.Core.List.{List, [], ◌∷◌, ◌++◌, append_assoc}
+use mathlib.Core.List.{List, [], ◌∷◌, ◌++◌}
 use Prim.Native.Nat.{ℕ, zero, suc, ◌+◌, ◌-◌, ◌≤◌, ◌<◌}
 use native.Mathlib.Omega.{arith}
 use native.Mathlib.Decide.{dec_le}
-use lib.ListN.{length, take, drop, length-append, length-take, take-append-drop, drop_of_length-le}
+use lib.ListN.{length, take, drop, length-append, length-take, drop_of_length-le}
 use lib.Seq.{take_all, take-append-add, take-append-le, drop-append-add, drop-append-le}
 use Rattle.model.specs.declared.Place.{Place}
-use Rattle.model.specs.Store.{Store, store_of, store_refusal}
+use Rattle.model.specs.Store.{Store, store_refusal}
 use Rattle.model.specs.Cuts.{interval}
 use Rattle.cuts.specs.Listing.{room, behind_all, fresh}
 use Rattle.cuts.specs.Gathering.{joined, stands_in, gathered_from}

@@ -23,7 +23,7 @@ use Rattle.cuts.specs.Outcomes.{counted, counting}
 use Rattle.cuts.specs.Listing.{flat, room, written, Said, done, more, nothing, ListOutcome, in_interval, listing}
 use Rattle.cuts.specs.Gathering.{GatherOutcome, joined, gathered_from, gathering}
 use Rattle.cuts.proofs.Members.{interval_long, interval_test}
-use Rattle.demands.specs.Calls.{Listable, behind_place, front, wrote_all, last_says, Roomy, rooms, NoneTwice, EachOnce}
+use Rattle.demands.specs.Calls.{Listable, behind_place, front, wrote_all, last_says, Roomy, rooms, EachOnce}
 use Rattle.demands.proofs.Going.{goes_on, all_written, last_says_lem}
 use Rattle.demands.proofs.Gathered.{joined_none_twice, joined_is_all, joined_long, gathers, sums}
 use Rattle.demands.proofs.Stopping.{stops}

@@ -2,7 +2,7 @@
 use Rattle.std.specs.Prelude.{ℕ, List}
 use Rattle.model.specs.declared.Record.{Record}
 use Rattle.model.specs.Store.{Store, store_of}
-use Rattle.report.specs.Report.{Printed, ReportOutcome}
+use Rattle.report.specs.Report.{ReportOutcome}
 
 -- rule 7: a caller's two numbers as a record, and with three lent buffers
 abbrev pub record_from : ℕ → ℕ → Record

@@ -14,7 +14,7 @@ pub use Rattle.model.specs.Ranges.{Bounds}
 use Rattle.model.proofs.Entries.{at_zeros, zeros_at_most, zeros_covered}
 use Rattle.model.proofs.Lists.{keep_same}
 use Rattle.model.proofs.Ranges.{known_at_most, Consistent}
-use Rattle.model.proofs.Causal.{Causal, clock_consistent}
+use Rattle.model.proofs.Causal.{clock_consistent}
 use Rattle.model.proofs.Valid.{length_tallies}
 use Rattle.model.proofs.Slots.{clock_long}
 use Rattle.model.proofs.Sound.{Sound, Full, causal_at, event_contained, stored_at}

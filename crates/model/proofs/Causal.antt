@@ -1,6 +1,6 @@
 -- What the clocks of a valid trace have, for the events that the tallies contain. Every theorem on cuts is over this.
-use mathlib.Core.Path.{◌≡◌, sym, subst}
-use mathlib.Core.Logic.{◌≢◌, by_cases}
+use mathlib.Core.Path.{sym, subst}
+use mathlib.Core.Logic.{by_cases}
 use mathlib.Core.List.{List}
 use Prim.Native.Nat.{ℕ, zero, suc, ◌≤◌, ◌<◌}
 use native.Mathlib.Omega.{arith}

@@ -14,7 +14,7 @@ use Rattle.model.specs.Lists.{at, keep}
 use Rattle.model.specs.Clocks.{Clocks, EventName, clock_of, known}
 use Rattle.model.specs.Cuts.{Contains, cuts_between}
 use Rattle.model.specs.Lexical.{lex_before}
-use Rattle.model.specs.Step.{following, can_raise, up_to, least, raised, raise_below, step}
+use Rattle.model.specs.Step.{following, can_raise, up_to, raised, raise_below, step}
 use Rattle.model.proofs.Tests.{and_left, and_right, and_both, all_below_at, all_below_all, holds, fails, decided}
 use Rattle.model.proofs.Entries.{AtMost, at_most_trans, at_zeros}
 use Rattle.model.proofs.Lists.{keep_from, keep_into}

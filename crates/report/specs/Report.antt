@@ -1,5 +1,5 @@
 -- What a report answers and leaves behind, for every input and every lent buffer.
-use Rattle.std.specs.Prelude.{◌≡◌, ℕ, ◌+◌, ◌≤◌, Bool, true, cond, List, ◌++◌, ltb, eqb, length, drop}
+use Rattle.std.specs.Prelude.{◌≡◌, ℕ, ◌≤◌, Bool, true, cond, List, ◌++◌, ltb, eqb, length, drop}
 use Rattle.model.specs.declared.Record.{Record}
 use Rattle.model.specs.declared.Question.{Question}
 use Rattle.model.specs.Lists.{at}

@@ -1,5 +1,5 @@
 -- Rules 44 and 45, writing by pieces.
-use Rattle.std.specs.Prelude.{◌≡◌, ℕ, zero, suc, ◌+◌, ◌-◌, ◌≤◌, ◌<◌, cond, List, [], ◌∷◌, ◌++◌, leb, ltb, eqb, length, get_or, take, drop}
+use Rattle.std.specs.Prelude.{◌≡◌, ℕ, zero, suc, ◌+◌, ◌-◌, ◌≤◌, ◌<◌, cond, List, ◌++◌, leb, ltb, eqb, length, get_or, take, drop}
 use Rattle.model.specs.Refusals.{verdict_number, or_else}
 use Rattle.model.specs.Clocks.{clock_of}
 use Rattle.model.specs.Follow.{tally, column_at, event_at}

@@ -1,7 +1,6 @@
 -- `add_head`: two lines in one piece, at the front.
 use mathlib.Core.Path.{◌≡◌}
 use native.Mathlib.Omega.{arith}
-use borrow.Author.Rules.{rules}
 use Rattle.pieces.specs.Pieces.{grown, empty_piece}
 use Rattle.pieces.specs.Lines.{key_line}
 use Rattle.pieces.proofs.Putting.{put_empty, put_two, empty_length}
@@ -9,7 +8,6 @@ use Rattle.pieces.proofs.Growing.{contents_length}
 use Rattle.loglines.specs.Keys.{tablets_key}
 use Rattle.answerlines.specs.Printing.{head_lines}
 use Rattle.answerlines.proofs.Lines.{tablets_most, events_most, head_most}
-use borrow.Author.Rules.{rules}
 use Rattle.answerlines.proofs.add_head.Goals as goal
 
 pub put_line-first-requires : goal.put_line-first-requires

@@ -1,8 +1,7 @@
 -- `add_intervals`: the lines of the positions passed.
-use mathlib.Core.Path.{◌≡◌, sym, subst}
-use Prim.Native.Nat.{ℕ, ◌+◌, ◌-◌, ◌*◌, ◌^◌, ◌≤◌, ◌<◌}
+use mathlib.Core.Path.{◌≡◌, sym}
+use Prim.Native.Nat.{◌^◌, ◌≤◌, ◌<◌}
 use native.Mathlib.Omega.{arith}
-use borrow.Author.Rules.{rules}
 use lib.ListN.{length}
 use Rattle.model.specs.Lists.{at}
 use Rattle.pieces.specs.Pieces.{grown, empty_piece}
@@ -10,8 +9,7 @@ use Rattle.pieces.specs.Lines.{pair_line}
 use Rattle.pieces.proofs.Putting.{put_empty, empty_length}
 use Rattle.pieces.proofs.Growing.{contents_length}
 use Rattle.answerlines.specs.Printing.{interval_key, interval_lines}
-use Rattle.answerlines.specs.Outputs.{LinesAt}
-use Rattle.answerlines.proofs.Lines.{no_lines, lines_join, lines_same, lines_long, interval_most, lines_next, lines_longer}
+use Rattle.answerlines.proofs.Lines.{lines_join, lines_same, lines_long, interval_most, lines_next, lines_longer}
 use Rattle.answerlines.proofs.add_intervals.Goals as goal
 
 pub put_pair-line-requires : goal.put_pair-line-requires

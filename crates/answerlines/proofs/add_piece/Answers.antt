@@ -2,13 +2,11 @@
 use mathlib.Core.Path.{ap, ◌∙◌}
 use Prim.Native.Nat.{ℕ, ◌+◌, ◌-◌}
 use native.Mathlib.Omega.{arith}
-use borrow.Author.Rules.{rules}
 use borrow.Rule.Slice.PartMut.{put_mid}
 use lib.ListN.{length, take}
 use lib.Seq.{sets}
 use Rattle.pieces.proofs.Growing.{contents_length}
 use Rattle.answerlines.proofs.Placing.{piece_text_lem, part_sets}
-use borrow.Author.Rules.{rules}
 use Rattle.answerlines.proofs.add_piece.Goals as goal
 
 pub returns : goal.returns

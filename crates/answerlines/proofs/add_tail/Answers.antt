@@ -2,16 +2,13 @@
 use mathlib.Core.Path.{◌≡◌}
 use Prim.Native.Nat.{◌≤◌}
 use native.Mathlib.Omega.{arith}
-use borrow.Author.Rules.{rules}
 use lib.ListN.{length}
-use Rattle.model.specs.Lists.{at}
 use Rattle.pieces.specs.Pieces.{grown, empty_piece}
 use Rattle.pieces.specs.Lines.{key_line}
 use Rattle.pieces.proofs.Putting.{put_empty, empty_length}
 use Rattle.pieces.proofs.Growing.{contents_length}
 use Rattle.answerlines.specs.Printing.{cuts_key, witness_line, tail_lines}
 use Rattle.answerlines.proofs.Lines.{cuts_most, lines_join, lines_long}
-use borrow.Author.Rules.{rules}
 use Rattle.answerlines.proofs.add_tail.Goals as goal
 
 pub put_line-total-requires : goal.put_line-total-requires

@@ -2,8 +2,6 @@
 use mathlib.Core.Path.{sym, ap, ◌∙◌}
 use Prim.Native.Nat.{◌≤◌}
 use native.Mathlib.Omega.{arith}
-use borrow.Author.Rules.{rules}
-use borrow.Author.Tests.{not-true, not-false}
 use lib.ListN.{length, take}
 use Rattle.pieces.specs.Pieces.{grown, empty_piece}
 use Rattle.pieces.specs.Lines.{list_line}
@@ -11,7 +9,6 @@ use Rattle.pieces.proofs.Putting.{put_empty, empty_length}
 use Rattle.pieces.proofs.Growing.{contents_length}
 use Rattle.answerlines.specs.Printing.{witness_key}
 use Rattle.answerlines.proofs.Lines.{witness_none, witness_cut, witness_most}
-use borrow.Author.Rules.{rules}
 use Rattle.answerlines.proofs.put_witness.Goals as goal
 
 pub put_bytes-requires : goal.put_bytes-requires

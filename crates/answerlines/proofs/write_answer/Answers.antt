@@ -1,9 +1,7 @@
 -- `write_answer`: the head, the intervals, the tail.
 use native.Mathlib.Omega.{arith}
-use borrow.Author.Rules.{rules}
 use Rattle.answerlines.specs.Printing.{answer_lines}
-use Rattle.answerlines.proofs.Lines.{lines_join, lines_long}
-use borrow.Author.Rules.{rules}
+use Rattle.answerlines.proofs.Lines.{lines_join}
 use Rattle.answerlines.proofs.write_answer.Goals as goal
 
 pub returns : goal.returns

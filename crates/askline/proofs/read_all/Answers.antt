@@ -1,6 +1,5 @@
 -- `read_all`: the set behind the key.
 use mathlib.Core.Path.{sym, ap, ◌∙◌}
-use borrow.Author.Rules.{rules}
 use borrow.Author.Tests.{not-true, not-false}
 use Rattle.askline.specs.Sets.{named_set}
 use Rattle.askline.specs.Ask.{ask_set, all_form}

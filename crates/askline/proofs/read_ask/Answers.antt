@@ -1,7 +1,6 @@
 -- `read_ask`: the number behind the first key, or another form.
 use mathlib.Core.Path.{sym, ap, ◌∙◌}
 use Prim.Native.Nat.{ℕ}
-use borrow.Author.Rules.{rules}
 use native.Mathlib.Omega.{arith}
 use lib.ListN.{take}
 use lib.Seq.{length-take-le}

@@ -1,6 +1,5 @@
 -- `read_exactly`: the number behind the key, or another form.
 use mathlib.Core.Path.{sym, ap, ◌∙◌}
-use borrow.Author.Rules.{rules}
 use Rattle.model.specs.declared.Question.TheVariants.{Exactly}
 use Rattle.lines.specs.Numbers.{number}
 use Rattle.askline.specs.Ask.{exactly_key, amount, all_form, exactly_form}

@@ -1,12 +1,11 @@
 -- `gather`: of a store that its test refuses nothing is gathered; of a sound one the intervals are.
-use mathlib.Core.Path.{◌≡◌, ap, sym, ◌∙◌}
+use mathlib.Core.Path.{ap, sym, ◌∙◌}
 use Prim.Native.Nat.{ℕ}
 use Rattle.model.specs.Refusals.{verdict_number}
 use Rattle.model.specs.Store.{Store, store_of, store_refusal}
-use Rattle.model.proofs.Refusals.{passed_zero, refused_some}
-use Rattle.store.proofs.Outcomes.{when_zero, when_some}
+use Rattle.model.proofs.Refusals.{refused_some}
+use Rattle.store.proofs.Outcomes.{when_some}
 use Rattle.cuts.specs.Gathering.{gather_in, refused_gathering}
-use borrow.Author.Rules.{rules}
 use Rattle.cuts.proofs.gather.Goals as goal
 
 pub returns-in-Refused : goal.returns-in-Refused

@@ -1,11 +1,10 @@
 -- `copy_out`: after i turns the first i bytes are copied.
-use mathlib.Core.Path.{◌≡◌, refl, ap, ◌∙◌}
+use mathlib.Core.Path.{◌≡◌, ap, ◌∙◌}
 use mathlib.Core.List.{List}
-use Prim.Native.Nat.{ℕ, ◌-◌, ◌≤◌}
+use Prim.Native.Nat.{ℕ}
 use native.Mathlib.Omega.{arith}
 use borrow.Author.Rules.{rules}
 use lib.ListN.{take, get_or, set}
-use lib.Seq.{sets, length-sets}
 use Rattle.pieces.specs.Pieces.{piece_room}
 use Rattle.pieces.proofs.Growing.{sets_more}
 use lib.ListN as lists

@@ -3,7 +3,6 @@ use mathlib.Core.Path.{◌≡◌}
 use Prim.Native.Nat.{◌-◌, ◌≤◌}
 use lib.ListN.{take}
 use lib.Seq.{sets}
-use lib.ListN as lists
 use Rattle.pieces.proofs.copy_out.Given as goal
 
 abbrev pub invariant-loop-i : goal.invariant-loop-i

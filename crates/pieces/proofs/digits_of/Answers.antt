@@ -1,10 +1,8 @@
 -- `digits_of`: the digits of what is left, and those that are there, are the number's.
-use mathlib.Core.Path.{◌≡◌, refl, sym, ◌∙◌}
-use mathlib.Core.List.{◌++◌, append-nil}
-use Prim.Native.Nat.{ℕ, ◌+◌, ◌-◌, ◌%◌, ◌≤◌}
+use mathlib.Core.Path.{◌∙◌}
+use Prim.Native.Nat.{◌+◌, ◌-◌, ◌%◌, ◌≤◌}
 use native.Mathlib.Omega.{arith}
-use lib.ListN.{length, drop, length-set}
-use Rattle.lines.specs.Numbers.{decimal}
+use lib.ListN.{length-set}
 use Rattle.lines.proofs.Decimals.{decimal_some}
 use Rattle.pieces.proofs.Fronting.{digits_room, digit_more, digit_last}
 use Rattle.pieces.proofs.digits_of.Goals as goal

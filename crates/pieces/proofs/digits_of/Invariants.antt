@@ -1,7 +1,7 @@
 -- `digits_of`: the digits of what is left, and those that are there, are the number's.
 use mathlib.Core.Path.{◌≡◌}
 use mathlib.Core.List.{◌++◌}
-use Prim.Native.Nat.{◌+◌, ◌-◌, ◌≤◌}
+use Prim.Native.Nat.{◌≤◌}
 use lib.ListN.{length, drop}
 use Rattle.lines.specs.Numbers.{decimal}
 use Rattle.pieces.proofs.digits_of.Given as goal

@@ -1,6 +1,5 @@
 -- `put_byte`: one store behind the bytes that the piece has.
 use mathlib.Core.Path.{refl}
-use borrow.Author.Rules.{rules}
 use Rattle.pieces.specs.Pieces.{grown}
 use Rattle.pieces.proofs.put_byte.Goals as goal
 

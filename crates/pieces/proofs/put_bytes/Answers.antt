@@ -1,10 +1,9 @@
 -- `put_bytes`: after i turns the first i bytes are put.
-use mathlib.Core.Path.{◌≡◌, refl, ap, ◌∙◌}
+use mathlib.Core.Path.{ap, ◌∙◌}
 use mathlib.Core.List.{List}
-use Prim.Native.Nat.{ℕ, ◌+◌, ◌-◌, ◌≤◌}
+use Prim.Native.Nat.{ℕ, ◌+◌}
 use native.Mathlib.Omega.{arith}
-use lib.ListN.{length, get_or, take, set}
-use lib.Seq.{sets}
+use lib.ListN.{get_or, set}
 use Rattle.pieces.proofs.Growing.{sets_on, grown_whole}
 use Rattle.pieces.proofs.put_bytes.Goals as goal
 

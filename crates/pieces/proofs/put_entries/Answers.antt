@@ -5,7 +5,7 @@ use Prim.Native.Nat.{ℕ, ◌+◌, ◌-◌, ◌≤◌}
 use native.Mathlib.Omega.{arith}
 use lib.ListN.{length, get_or, take, drop}
 use Rattle.lines.specs.Numbers.{decimal}
-use Rattle.lines.specs.Lists.{comma_list, more_entries}
+use Rattle.lines.specs.Lists.{more_entries}
 use Rattle.pieces.specs.Pieces.{piece_room, grown}
 use Rattle.pieces.proofs.Growing.{grown_none}
 use Rattle.pieces.proofs.Putting.{put_length, put_two, entry_put, entries_on, all_entries, first_fits, entry_fits_lem}

@@ -4,7 +4,6 @@ use Prim.Native.Nat.{ℕ}
 use lib.Dec.{leb, eqb}
 use Rattle.model.specs.declared.Question.{Question}
 use Rattle.model.specs.Questions.{meets}
-use borrow.Author.Rules.{rules}
 use Rattle.questions.proofs.cut_meets.Goals as goal
 
 pub returns-in-AtLeast : goal.returns-in-AtLeast

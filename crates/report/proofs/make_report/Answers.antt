@@ -3,12 +3,10 @@ use mathlib.Core.Path.{◌≡◌, sym, ap, ◌∙◌}
 use mathlib.Core.List.{List}
 use Prim.Native.Nat.{ℕ, ◌+◌, ◌-◌, ◌≤◌}
 use native.Mathlib.Omega.{arith}
-use borrow.Author.Rules.{rules}
 use lib.ListN.{length, take, drop, length-drop}
 use lib.Seq.{take_all}
 use Rattle.lines.specs.Find.{rest_lines}
 use Rattle.report.proofs.Asking.{look_inside, report_short, report_refused, report_answered, read_sound}
-use borrow.Author.Rules.{rules}
 use Rattle.report.proofs.make_report.Goals as goal
 
 pub returns-then-out-lt-OUTPUT_SIZE : goal.returns-then-out-lt-OUTPUT_SIZE

@@ -1,6 +1,5 @@
 -- `read`: the buffers' sizes, then the lines.
 use mathlib.Core.Path.{◌≡◌, sym, ap, ◌∙◌}
-use borrow.Author.Rules.{rules}
 use Rattle.model.specs.declared.Record.{Record}
 use Rattle.model.specs.Refusals.{verdict_number}
 use Rattle.model.specs.Store.{store_of, fresh_record, store_refusal}

@@ -1,7 +1,6 @@
 -- `write`: the store, the position, the room, then the piece.
 use mathlib.Core.Path.{◌≡◌}
 use native.Mathlib.Omega.{arith}
-use borrow.Author.Rules.{rules}
 use Rattle.model.proofs.Refusals.{passed_zero, refused_some}
 use Rattle.model.specs.Store.{Store, store_of, store_refusal}
 use Rattle.pieces.proofs.Growing.{contents_length}

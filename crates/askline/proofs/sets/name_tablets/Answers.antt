@@ -1,12 +1,11 @@
 -- `name_tablets`: the mask is that of the tablets passed, and the rest decides.
-use mathlib.Core.Path.{◌≡◌, refl, sym, ap, ◌∙◌}
-use Prim.Native.Nat.{ℕ, ◌+◌, ◌-◌, ◌≤◌, ◌<◌}
+use mathlib.Core.Path.{sym, ap, ◌∙◌}
+use Prim.Native.Nat.{ℕ, ◌+◌, ◌≤◌}
 use native.Mathlib.Omega.{arith}
 use borrow.Author.Rules.{rules}
-use lib.ListN.{length, get_or, take, drop, drop_of_length-le}
-use lib.Seq.{length-take-le}
-use Rattle.askline.specs.Sets.{bit, naming}
-use Rattle.askline.proofs.Naming.{mask_below, bit_most, names_next, not_rising, no_tablet}
+use lib.ListN.{length, get_or, take, drop}
+use Rattle.askline.specs.Sets.{naming}
+use Rattle.askline.proofs.Naming.{mask_below, bit_most, names_next}
 use Rattle.askline.proofs.sets.name_tablets.Goals as goal
 
 pub overflow_add-mask : goal.overflow_add-mask

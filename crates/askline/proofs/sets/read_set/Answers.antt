@@ -1,8 +1,6 @@
 -- `read_set`: one entry more than there are commas.
 use mathlib.Core.Path.{sym, ap, subst, ◌∙◌}
-use Prim.Native.Nat.{ℕ, ◌+◌, ◌-◌, ◌<◌}
-use native.Mathlib.Omega.{arith}
-use borrow.Author.Rules.{rules}
+use Prim.Native.Nat.{ℕ, ◌+◌, ◌<◌}
 use borrow.Author.Tests.{not-true, not-false}
 use lib.ListN.{take}
 use Rattle.lines.specs.declared.lists.Listed.{Listed}

@@ -2,9 +2,8 @@
 -- output, or goes on.
 use mathlib.Core.Path.{◌≡◌, sym, ap, ap₂, ◌∙◌, subst}
 use mathlib.Core.List.{List, ◌++◌}
-use Prim.Native.Nat.{ℕ, ◌+◌, ◌-◌, ◌*◌, ◌≤◌, ◌<◌}
+use Prim.Native.Nat.{ℕ, ◌+◌, ◌-◌, ◌*◌, ◌≤◌}
 use native.Mathlib.Omega.{arith}
-use borrow.Author.Rules.{rules}
 use borrow.Rule.Slice.PartMut.{put_mid}
 use lib.ListN.{length, drop}
 use Rattle.model.specs.Store.{Store, store_of}
@@ -15,7 +14,7 @@ use Rattle.cuts.specs.declared.Gathered.{Gathered}
 use Rattle.cuts.specs.Listing.{flat, listed, shown_from, list_in, fresh}
 use Rattle.cuts.specs.Gathering.{gathered, joined}
 use Rattle.cuts.proofs.Members.{interval_some}
-use Rattle.cuts.proofs.Gathering.{UpTo, up_to_start, same_long, part_is, fits_on, put_is, listed_here, stops_last, stops_full, goes_on}
+use Rattle.cuts.proofs.Gathering.{UpTo, same_long, part_is, fits_on, put_is, listed_here, stops_last, stops_full, goes_on}
 use Rattle.cuts.proofs.gatherer.gather_from.Goals as goal
 
 pub overflow_mul-from : goal.overflow_mul-from

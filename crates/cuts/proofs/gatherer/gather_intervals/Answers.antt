@@ -1,5 +1,4 @@
 -- `gather_intervals`: 9 for a last position above T or below the first, 14 for an output under 8 bytes, else the intervals.
-use borrow.Author.Rules.{rules}
 use borrow.Author.Tests.{lt-ltb, le-ltb}
 use Rattle.cuts.proofs.gatherer.gather_intervals.Goals as goal
 

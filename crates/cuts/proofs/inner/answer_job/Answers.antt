@@ -2,12 +2,11 @@
 use mathlib.Core.Path.{◌≡◌, refl, sym, ◌∙◌}
 use mathlib.Core.Bool.{true, false}
 use native.Mathlib.Omega.{arith}
-use borrow.Author.Tests.{not-true, not-false}
+use borrow.Author.Tests.{not-false}
 use Rattle.model.specs.Store.{Store, store_of}
 use Rattle.store.proofs.Ready.{tested_full}
 use Rattle.cuts.specs.Outcomes.{range_known, question_fits}
-use Rattle.cuts.proofs.Answers.{ask_outside, ask_bad_set, ask_answered}
-use borrow.Author.Rules.{rules}
+use Rattle.cuts.proofs.Answers.{ask_answered}
 use Rattle.cuts.proofs.inner.answer_job.Goals as goal
 
 pub first_meeting-first-requires : goal.first_meeting-first-requires

@@ -4,7 +4,6 @@ use Prim.Native.Nat.{ℕ}
 use native.Mathlib.Omega.{arith}
 use Rattle.model.specs.Store.{Store, store_of}
 use Rattle.steps.proofs.Bounding.{countable}
-use Rattle.cuts.proofs.Answers.{count_outside}
 use Rattle.cuts.proofs.inner.count_interval.Goals as goal
 
 pub tallies_after-counts-requires : goal.tallies_after-counts-requires

@@ -3,7 +3,6 @@ use mathlib.Core.Path.{refl}
 use mathlib.Core.Bool.{true}
 use mathlib.Core.List.{List}
 use Prim.Native.Nat.{ℕ}
-use borrow.Author.Rules.{rules}
 use Rattle.model.specs.declared.Range.TheVariants.{Interval}
 use Rattle.model.specs.Store.{Store, store_of}
 use Rattle.steps.proofs.Bounding.{interval_ready}

@@ -9,8 +9,8 @@ use lib.ListN.{length}
 use Rattle.model.specs.Clocks.{clock_at, covered}
 use Rattle.model.specs.Cuts.{consistent, cuts_between}
 use Rattle.steps.specs.Walk.{Standing}
-use Rattle.steps.proofs.Walks.{walk_begins, all_from_first, walk_ends, walk_goes_on, walk_stands}
-use Rattle.cuts.proofs.Listings.{refused_listed, shown_listed, none_listed, stand_inside, list_outside, list_begun, list_fresh}
+use Rattle.steps.proofs.Walks.{all_from_first, walk_ends, walk_goes_on, walk_stands}
+use Rattle.cuts.proofs.Listings.{shown_listed, none_listed, stand_inside, list_begun, list_fresh}
 use Rattle.cuts.proofs.lister.list_span.Goals as goal
 
 pub returns-then-not-place : goal.returns-then-not-place

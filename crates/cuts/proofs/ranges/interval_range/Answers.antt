@@ -2,8 +2,7 @@
 use native.Mathlib.Omega.{arith}
 use Rattle.model.specs.Store.{Store, store_of}
 use Rattle.steps.proofs.Bounding.{countable, interval_ready}
-use Rattle.cuts.proofs.Answers.{interval_outside, interval_inside}
-use borrow.Author.Rules.{rules}
+use Rattle.cuts.proofs.Answers.{interval_inside}
 use Rattle.cuts.proofs.ranges.interval_range.Goals as goal
 
 -- tallies can be counted up to any position of the trace

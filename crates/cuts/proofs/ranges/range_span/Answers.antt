@@ -9,7 +9,6 @@ use Rattle.model.specs.Store.{Store, store_of}
 use Rattle.cuts.specs.Outcomes.{RangeRead}
 use Rattle.steps.proofs.Bounding.{countable}
 use Rattle.cuts.proofs.Answers.{read_whole}
-use borrow.Author.Rules.{rules}
 use Rattle.cuts.proofs.ranges.range_span.Goals as goal
 
 pub trace_span-span-requires : goal.trace_span-span-requires

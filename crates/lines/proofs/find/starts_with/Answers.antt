@@ -1,10 +1,6 @@
 -- `starts_with`: the bytes passed are equal, so the rest decides.
-use mathlib.Core.Path.{◌≡◌, refl, sym, ◌∙◌}
-use Prim.Native.Nat.{◌-◌, ◌≤◌}
-use native.Mathlib.Omega.{arith}
-use lib.ListN.{length, drop}
-use Rattle.lines.specs.Find.{starts_with}
-use Rattle.lines.proofs.Parts.{key_short, key_on, key_off, key_end}
+use mathlib.Core.Path.{sym}
+use Rattle.lines.proofs.Parts.{key_short}
 use Rattle.lines.proofs.find.starts_with.Goals as goal
 
 pub returns-then-text-key : goal.returns-then-text-key

@@ -1,18 +1,17 @@
 -- `read_entries`: the entries passed are set, those behind are still 0, and the rest of the text decides.
-use mathlib.Core.Path.{◌≡◌, refl, sym, ap, ◌∙◌}
+use mathlib.Core.Path.{◌≡◌, sym, ap, ◌∙◌}
 use mathlib.Core.Bool.{true}
 use mathlib.Core.List.{◌++◌, List, [], ◌∷◌}
 use Prim.Native.Nat.{ℕ, ◌+◌, ◌-◌, ◌≤◌, ◌<◌}
 use native.Mathlib.Omega.{arith}
-use borrow.Author.Rules.{rules}
-use lib.ListN.{set, length-set, length-drop, length, get_or, take, drop}
+use lib.ListN.{set, length-set, length-drop, length, take, drop}
 use lib.Seq.{length-take-le}
 use Rattle.lines.specs.declared.lists.Listed.{Listed}
 use Rattle.lines.proofs.Decimals.{number_limit}
 use Rattle.lines.specs.declared.numbers.Number.TheVariants.{Value}
-use Rattle.lines.proofs.Entries.{rest_of, behind_them, entry_read, no_comma, faulty_entry, last_read, last_faulty, next_values, still_clear, all_values, clear_zeros, whole, further}
+use Rattle.lines.proofs.Entries.{rest_of, entry_read, no_comma, faulty_entry, last_read, next_values, still_clear, all_values, further}
 use Rattle.lines.proofs.Parts.{find_most}
-use Rattle.lines.specs.Lists.{entries, listed_by}
+use Rattle.lines.specs.Lists.{listed_by}
 use Rattle.lines.specs.Find.{find}
 use Rattle.lines.specs.Numbers.{number}
 use Rattle.lines.proofs.lists.read_entries.Goals as goal

@@ -1,6 +1,5 @@
 -- `read_list`: one to eight entries.
 use mathlib.Core.Path.{sym, ◌∙◌}
-use borrow.Author.Rules.{rules}
 use Rattle.lines.proofs.Entries.{listed_none, listed_many, listed_some}
 use Rattle.lines.proofs.lists.read_list.Goals as goal
 

@@ -1,6 +1,5 @@
 -- `is_plain`: by the length, and else by the first byte.
 use borrow.Author.Tests.{eq-eqb, ne_eqb}
-use borrow.Author.Rules.{rules}
 use Rattle.lines.specs.Numbers.{plain}
 use Rattle.lines.proofs.numbers.is_plain.Goals as goal
 

@@ -1,8 +1,6 @@
 -- `read_number`: the form first, then the digits.
 use mathlib.Core.Path.{sym, ap, ◌∙◌}
 use mathlib.Core.Bool.{Bool, cond}
-use borrow.Author.Rules.{rules}
-use borrow.Author.Tests.{not-true, not-false}
 use Rattle.lines.specs.Numbers.{number, digits_from}
 use Rattle.lines.specs.declared.numbers.Number.TheVariants.{Faulty}
 use Rattle.lines.proofs.numbers.read_number.Goals as goal

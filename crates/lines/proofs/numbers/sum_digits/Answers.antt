@@ -1,9 +1,9 @@
 -- `sum_digits`: what the digits passed say is the sum, and the rest decides.
-use mathlib.Core.Path.{◌≡◌, refl, sym, ap, ◌∙◌}
-use Prim.Native.Nat.{◌+◌, ◌-◌, ◌*◌, ◌≤◌}
+use mathlib.Core.Path.{◌≡◌, sym, ap, ◌∙◌}
+use Prim.Native.Nat.{◌+◌, ◌-◌, ◌*◌}
 use native.Mathlib.Numerals.{add-one}
 use native.Mathlib.Omega.{arith}
-use lib.ListN.{get_or, drop_of_length-le, length, drop}
+use lib.ListN.{get_or, drop_of_length-le, drop}
 use lib.Seq.{drop-cons}
 use Rattle.lines.specs.Numbers.{digits_from}
 use Rattle.lines.proofs.Decimals.{step_digit, step_low, step_high, past_limit, at_end}

@@ -1,7 +1,6 @@
 -- `clock_line`: the list behind the key in the first line.
 use mathlib.Core.Path.{ap, ◌∙◌}
 use Prim.Native.Nat.{ℕ}
-use borrow.Author.Rules.{rules}
 use lib.ListN.{take}
 use Rattle.lines.specs.Find.{value_behind}
 use Rattle.lines.specs.Lists.{listed}

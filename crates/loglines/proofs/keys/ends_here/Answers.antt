@@ -1,7 +1,6 @@
 -- `ends_here`: the key of the last line in the first line.
 use mathlib.Core.Path.{ap, ◌∙◌}
 use Prim.Native.Nat.{ℕ}
-use borrow.Author.Rules.{rules}
 use lib.ListN.{take}
 use Rattle.lines.specs.Find.{starts_with}
 use Rattle.loglines.proofs.Lines.{line_lent}

@@ -4,7 +4,6 @@ use native.Mathlib.Omega.{arith}
 use Rattle.model.specs.Lists.{at}
 use Rattle.model.specs.Numbers.{column, slot}
 use Rattle.questions.proofs.Laws.{holds_nothing, holds_stored}
-use borrow.Author.Rules.{rules}
 use Rattle.questions.proofs.holdings.holding_at.Goals as goal
 
 pub returns-then-k-eq0 : goal.returns-then-k-eq0

@@ -1,11 +1,9 @@
 -- `sum_held`: the sum of the holdings looked at so far, each of 16 bits.
-use mathlib.Core.Path.{◌≡◌, refl, ap, ◌∙◌}
-use Prim.Native.Nat.{ℕ, ◌-◌, ◌*◌, ◌≤◌}
+use mathlib.Core.Path.{◌≡◌, ap, ◌∙◌}
+use Prim.Native.Nat.{ℕ}
 use native.Mathlib.Omega.{arith}
 use Rattle.model.specs.Lists.{sum_below}
 use Rattle.model.specs.Questions.{holding, sum_held}
-use Rattle.questions.specs.Holdings.{ForHeld}
-use Rattle.questions.proofs.Laws.{sum_more, next_ready, next_holding}
 use Rattle.questions.proofs.holdings.sum_held.Goals as goal
 
 pub returns : goal.returns

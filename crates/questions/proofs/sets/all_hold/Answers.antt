@@ -1,18 +1,14 @@
 -- `all_hold`: the named tablets looked at so far hold something; `rest` is the mask without their bits.
-use mathlib.Core.Path.{◌≡◌, refl, sym, ap, ◌∙◌}
-use mathlib.Core.Bool.{Bool, true, cond}
-use mathlib.Core.List.{List}
-use Prim.Native.Nat.{ℕ, ◌-◌, ◌≤◌}
+use mathlib.Core.Path.{◌≡◌, sym, ap, ◌∙◌}
+use mathlib.Core.Bool.{true, cond}
+use Prim.Native.Nat.{ℕ}
 use native.Mathlib.Omega.{arith}
-use borrow.Author.Rules.{rules}
-use borrow.Author.Tests.{not-true, not-false}
 use lib.Dec.{leb}
 use Rattle.model.specs.Lists.{all_below}
-use Rattle.model.specs.Store.{Store}
-use Rattle.model.specs.Questions.{holding, names}
+use Rattle.model.specs.Questions.{names}
 use Rattle.model.proofs.Tests.{all_below_more, all_below_stop}
 use Rattle.questions.specs.Holdings.{ForHeld}
-use Rattle.questions.proofs.Laws.{halved, halved_more, named_fact, next_ready, next_holding}
+use Rattle.questions.proofs.Laws.{halved_more, named_fact, next_holding}
 use Rattle.questions.proofs.sets.all_hold.Invariants.{one}
 use Rattle.questions.proofs.sets.all_hold.Goals as goal
 

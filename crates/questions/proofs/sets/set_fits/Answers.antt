@@ -1,15 +1,11 @@
 -- `set_fits`: the bits looked at so far name tablets up to n; `rest` is the mask without them.
-use mathlib.Core.Path.{◌≡◌, refl, sym, ap, ◌∙◌}
-use mathlib.Core.Bool.{Bool, true, cond}
-use Prim.Native.Nat.{ℕ, ◌-◌, ◌≤◌}
+use mathlib.Core.Path.{◌≡◌, sym, ap, ◌∙◌}
+use Prim.Native.Nat.{ℕ, ◌≤◌}
 use native.Mathlib.Omega.{arith}
-use borrow.Author.Rules.{rules}
-use borrow.Author.Tests.{not-true, not-false}
 use lib.Dec.{ltb}
 use Rattle.model.specs.Lists.{all_below}
-use Rattle.model.specs.Questions.{names}
 use Rattle.model.proofs.Tests.{all_below_more, all_below_stop}
-use Rattle.questions.proofs.Laws.{halved, halved_more, named_fact, set_empty, set_by_bits}
+use Rattle.questions.proofs.Laws.{halved_more, named_fact, set_empty, set_by_bits}
 use Rattle.questions.proofs.sets.set_fits.Invariants.{bit}
 use Rattle.questions.proofs.sets.set_fits.Goals as goal
 

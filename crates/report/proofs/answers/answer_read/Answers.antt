@@ -1,10 +1,7 @@
 -- `answer_read`: reading's own refusal, or the answer.
 use mathlib.Core.Path.{refl, ◌∙◌}
-use native.Mathlib.Omega.{arith}
-use borrow.Author.Rules.{rules}
 use Rattle.text.specs.Reading.{read_outcome}
 use Rattle.report.proofs.Outcomes.{read_refused, read_passed}
-use borrow.Author.Rules.{rules}
 use Rattle.report.proofs.answers.answer_read.Goals as goal
 
 pub returns-in-Refused : goal.returns-in-Refused

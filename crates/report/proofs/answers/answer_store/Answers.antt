@@ -1,11 +1,8 @@
 -- `answer_store`: 13, or the witness and the counts.
 use mathlib.Core.Path.{refl, ◌∙◌}
-use native.Mathlib.Omega.{arith}
-use borrow.Author.Rules.{rules}
 use Rattle.model.specs.Store.{Store, store_of}
 use Rattle.cuts.specs.declared.Answer.TheVariants.{Found, NoCut}
 use Rattle.report.proofs.Outcomes.{answering_refused, answering_given}
-use borrow.Author.Rules.{rules}
 use Rattle.report.proofs.answers.answer_store.Goals as goal
 
 pub returns-in-Refused : goal.returns-in-Refused

@@ -1,9 +1,7 @@
 -- `look_at`: the length, then the ask line.
 use mathlib.Core.Path.{sym, ap, ◌∙◌}
-use borrow.Author.Rules.{rules}
 use Rattle.report.specs.Report.{looked}
 use Rattle.report.proofs.Asking.{look_long, look_short}
-use borrow.Author.Rules.{rules}
 use Rattle.report.proofs.inputs.look_at.Goals as goal
 
 pub returns-then-input-gt65536 : goal.returns-then-input-gt65536

@@ -2,7 +2,6 @@
 use mathlib.Core.Path.{◌≡◌, ap, subst, ◌∙◌}
 use Prim.Native.Nat.{ℕ, ◌^◌, ◌≤◌, ◌<◌}
 use native.Mathlib.Omega.{arith}
-use borrow.Author.Rules.{rules}
 use lib.ListN.{length}
 use Rattle.model.specs.Refusals.{number_of}
 use Rattle.pieces.specs.Pieces.{grown, empty_piece}
@@ -11,7 +10,6 @@ use Rattle.pieces.proofs.Putting.{put_empty, empty_length}
 use Rattle.pieces.proofs.Growing.{contents_length}
 use Rattle.answerlines.specs.Printing.{refused_key, refused_line}
 use Rattle.report.proofs.Showing.{pair_most, piece_shown}
-use borrow.Author.Rules.{rules}
 use Rattle.report.proofs.refusals.refuse.Goals as goal
 
 pub put_pair-piece-requires : goal.put_pair-piece-requires

@@ -1,14 +1,12 @@
 -- `count_all`: the sum and the counts of the positions passed, and the tallies after the position that is due.
 use mathlib.Core.Path.{◌≡◌, refl, sym, subst, ◌∙◌}
 use mathlib.Core.Bool.{Bool, true, false}
-use mathlib.Core.Logic.{⊎_elim}
 use mathlib.Core.List.{List}
-use Prim.Native.Nat.{ℕ, ◌+◌, ◌-◌, ◌^◌, ◌≤◌, ◌<◌}
+use Prim.Native.Nat.{ℕ, ◌+◌, ◌≤◌, ◌<◌}
 use native.Mathlib.Omega.{arith}
-use borrow.Author.Rules.{rules}
 use lib.Dec.{T}
 use lib.ListN.{length, length-set}
-use Rattle.model.specs.Lists.{at, eight, sum_below}
+use Rattle.model.specs.Lists.{eight}
 use Rattle.model.specs.Follow.{tallies}
 use Rattle.model.specs.Store.{Store, store_of}
 use Rattle.store.proofs.Theorems.{sound_limits}

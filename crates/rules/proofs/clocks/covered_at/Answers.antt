@@ -1,13 +1,8 @@
 -- `covered_at`: all entries passed so far are covered; an entry that is not ends the loop.
-use mathlib.Core.Path.{◌≡◌, refl, sym}
-use mathlib.Core.Bool.{Bool, true}
-use mathlib.Core.List.{List}
-use Prim.Native.Nat.{ℕ, ◌-◌, ◌≤◌}
+use mathlib.Core.Path.{◌≡◌, sym}
 use native.Mathlib.Omega.{arith}
 use borrow.Author.Tests.{le-leb, lt-leb}
-use lib.Dec.{leb}
-use Rattle.model.specs.Lists.{at, all_below}
-use Rattle.model.specs.Clocks.{clock_in, covered}
+use Rattle.model.specs.Clocks.{covered}
 use Rattle.model.proofs.Tests.{all_below_more, all_below_stop}
 use Rattle.model.proofs.Slots.{at_clock}
 use Rattle.rules.proofs.clocks.covered_at.Invariants.{entry}

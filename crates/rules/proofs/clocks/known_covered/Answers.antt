@@ -1,12 +1,10 @@
 -- `known_covered`: no event knows nothing; an event has its slot within the buffer.
 use mathlib.Core.Path.{sym, ap, ◌∙◌}
-use mathlib.Core.List.{List}
 use Prim.Native.Nat.{ℕ}
 use native.Mathlib.Omega.{arith}
 use Rattle.model.specs.Numbers.{column, slot}
-use Rattle.model.specs.Clocks.{clock_in, clock_at, covered, known}
+use Rattle.model.specs.Clocks.{clock_at, covered, known}
 use Rattle.model.proofs.Entries.{zeros_covered}
-use Rattle.model.proofs.Ranges.{known_event}
 use borrow.Author.Rules.{rules}
 use Rattle.rules.proofs.clocks.known_covered.Goals as goal
 

@@ -1,7 +1,6 @@
 -- `slot_of` is the slot of document 01.
 use native.Mathlib.Omega.{arith}
 use Rattle.model.specs.Numbers.{slot}
-use borrow.Author.Rules.{rules}
 use Rattle.rules.proofs.clocks.slot_of.Goals as goal
 
 pub returns : goal.returns

@@ -1,12 +1,11 @@
 -- `clock_verdict`: each return is one link of the chain 5, 6, 7.
 use mathlib.Core.Path.{◌≡◌, sym, ◌∙◌}
 use mathlib.Core.Bool.{true}
-use borrow.Author.Tests.{eq-eqb, ne_eqb, not-true, not-false}
+use borrow.Author.Tests.{eq-eqb, ne_eqb}
 use Rattle.model.specs.Numbers.{column}
 use Rattle.model.specs.Follow.{others_within, clock_refusal}
 use Rattle.model.proofs.Tests.{from_true}
 use Rattle.model.proofs.Follow.{last_known_bounded}
-use borrow.Author.Rules.{rules}
 use Rattle.rules.proofs.follow.clock_verdict.Goals as goal
 
 pub returns-then-clock-own : goal.returns-then-clock-own

@@ -1,17 +1,13 @@
 -- `covers_known`: all that was looked at so far is covered; one that is not ends the loop.
-use mathlib.Core.Path.{◌≡◌, refl, sym, ap, ◌∙◌}
-use mathlib.Core.Bool.{Bool, true}
-use mathlib.Core.List.{List}
-use Prim.Native.Nat.{ℕ, ◌-◌, ◌≤◌}
+use mathlib.Core.Path.{◌≡◌, sym, ap, ◌∙◌}
+use mathlib.Core.Bool.{Bool}
+use Prim.Native.Nat.{ℕ}
 use native.Mathlib.Omega.{arith}
-use borrow.Author.Tests.{not-true, not-false}
-use borrow.Author.Rules.{rules}
-use Rattle.model.specs.declared.Tablet.{Tablet}
-use Rattle.model.specs.Lists.{at, all_below}
+use Rattle.model.specs.Lists.{at}
 use Rattle.model.specs.Numbers.{column}
 use Rattle.model.specs.Clocks.{clock_at, covered, known}
 use Rattle.model.specs.Follow.{last_known, covers}
-use Rattle.model.proofs.Tests.{all_below_more, all_below_stop}
+use Rattle.model.proofs.Tests.{all_below_stop}
 use Rattle.model.proofs.Columns.{column_of_next}
 use Rattle.rules.proofs.follow.covers_known.Invariants.{one}
 use Rattle.rules.proofs.follow.covers_known.Goals as goal

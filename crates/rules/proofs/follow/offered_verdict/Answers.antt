@@ -6,7 +6,6 @@ use Rattle.model.specs.Lists.{at}
 use Rattle.model.specs.Follow.{tablet_refusal, follow_refusal}
 use Rattle.model.proofs.Refusals.{or_else_next, or_else_first, passed_zero, refused_some}
 use Rattle.model.proofs.Follow.{tablet_holds}
-use borrow.Author.Rules.{rules}
 use Rattle.rules.proofs.follow.offered_verdict.Goals as goal
 
 pub clock_verdict-requires : goal.clock_verdict-requires

@@ -1,17 +1,13 @@
 -- `others_within`: all entries passed so far fit; an entry that does not ends the loop.
-use mathlib.Core.Path.{◌≡◌, refl, sym, ap, ◌∙◌}
-use mathlib.Core.Bool.{Bool, true}
-use mathlib.Core.List.{List}
-use Prim.Native.Nat.{ℕ, ◌-◌, ◌≤◌}
+use mathlib.Core.Path.{◌≡◌, sym, ap, ◌∙◌}
+use mathlib.Core.Bool.{Bool}
+use Prim.Native.Nat.{ℕ}
 use native.Mathlib.Omega.{arith}
-use borrow.Author.Tests.{not-true, not-false}
-use Rattle.model.specs.declared.Tablet.{Tablet}
-use Rattle.model.specs.Lists.{at, all_below}
+use Rattle.model.specs.Lists.{at}
 use Rattle.model.specs.Numbers.{column}
 use Rattle.model.specs.Follow.{entry_fits, others_within}
-use Rattle.model.proofs.Tests.{all_below_more, all_below_stop}
+use Rattle.model.proofs.Tests.{all_below_stop}
 use Rattle.model.proofs.Columns.{column_of_next}
-use borrow.Author.Rules.{rules}
 use Rattle.rules.proofs.follow.others_within.Invariants.{entry}
 use Rattle.rules.proofs.follow.others_within.Goals as goal
 

@@ -11,7 +11,6 @@ use Rattle.model.specs.Follow.{tablet_refusal, clock_refusal, follow_refusal}
 use Rattle.model.proofs.Refusals.{or_else_next, or_else_first, passed_zero, refused_some}
 use Rattle.model.proofs.Follow.{tablet_holds}
 use Rattle.model.proofs.Slots.{clock_in_long, part_clock}
-use borrow.Author.Rules.{rules}
 use Rattle.rules.proofs.follow.stored_verdict.Goals as goal
 
 pub overflow_sub-own : goal.overflow_sub-own

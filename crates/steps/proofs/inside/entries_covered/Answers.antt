@@ -1,14 +1,9 @@
 -- `entries_covered`: the entries passed so far are covered; one that is not ends the loop.
-use mathlib.Core.Path.{◌≡◌, refl, sym}
-use mathlib.Core.Bool.{Bool, true}
-use mathlib.Core.List.{List}
-use Prim.Native.Nat.{ℕ, ◌-◌, ◌≤◌}
+use mathlib.Core.Path.{◌≡◌, sym}
 use native.Mathlib.Omega.{arith}
-use borrow.Author.Tests.{le-leb, lt-leb}
-use lib.Dec.{leb}
-use Rattle.model.specs.Lists.{at, all_below}
+use borrow.Author.Tests.{lt-leb}
 use Rattle.model.specs.Clocks.{covered}
-use Rattle.model.proofs.Tests.{all_below_more, all_below_stop}
+use Rattle.model.proofs.Tests.{all_below_stop}
 use Rattle.steps.proofs.inside.entries_covered.Invariants.{entry}
 use Rattle.steps.proofs.inside.entries_covered.Goals as goal
 

@@ -2,12 +2,10 @@
 use mathlib.Core.Path.{◌≡◌, sym, ap, ◌∙◌}
 use mathlib.Core.Bool.{Bool, true, ◌&&◌}
 use native.Mathlib.Omega.{arith}
-use borrow.Author.Tests.{not-true, not-false}
 use Rattle.model.specs.Clocks.{clock_at, covered}
 use Rattle.model.specs.Cuts.{closed, consistent}
 use Rattle.model.proofs.Tests.{from_true}
 use Rattle.model.proofs.Entries.{covered_at_most}
-use borrow.Author.Rules.{rules}
 use Rattle.steps.proofs.inside.in_span.Goals as goal
 
 pub returns-then-not-entries_covered-2 : goal.returns-then-not-entries_covered-2

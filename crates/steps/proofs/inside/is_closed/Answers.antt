@@ -1,16 +1,12 @@
 -- `is_closed`: what the tablets passed so far know is in the cut; one that knows more ends the loop.
-use mathlib.Core.Path.{◌≡◌, refl, sym, ap, ◌∙◌}
-use mathlib.Core.Bool.{Bool, true}
-use mathlib.Core.List.{List}
-use Prim.Native.Nat.{ℕ, ◌-◌, ◌≤◌}
+use mathlib.Core.Path.{◌≡◌, sym, ap, ◌∙◌}
+use mathlib.Core.Bool.{Bool}
+use Prim.Native.Nat.{ℕ}
 use native.Mathlib.Omega.{arith}
-use borrow.Author.Rules.{rules}
-use borrow.Author.Tests.{not-true, not-false}
-use lib.ListN.{length}
-use Rattle.model.specs.Lists.{at, all_below}
+use Rattle.model.specs.Lists.{at}
 use Rattle.model.specs.Clocks.{clock_at, covered, known}
 use Rattle.model.specs.Cuts.{closed}
-use Rattle.model.proofs.Tests.{all_below_more, all_below_stop}
+use Rattle.model.proofs.Tests.{all_below_stop}
 use Rattle.model.proofs.Columns.{column_of_next}
 use Rattle.steps.proofs.inside.is_closed.Invariants.{one}
 use Rattle.steps.proofs.inside.is_closed.Goals as goal

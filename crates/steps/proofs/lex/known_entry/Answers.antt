@@ -10,7 +10,6 @@ use Rattle.model.specs.Clocks.{clock_at, known}
 use Rattle.model.proofs.Entries.{at_zeros}
 use Rattle.model.proofs.Ranges.{known_event}
 use Rattle.steps.proofs.Entries.{entry_byte}
-use borrow.Author.Rules.{rules}
 use Rattle.steps.proofs.lex.known_entry.Goals as goal
 
 pub returns-then-number-eq0 : goal.returns-then-number-eq0

@@ -1,7 +1,7 @@
 -- `least_entry`: the largest so far, with what the events of the tablets that are left know, is the largest of all.
 use mathlib.Core.Path.{◌≡◌}
 use mathlib.Core.List.{List}
-use Prim.Native.Nat.{ℕ, ◌-◌, ◌≤◌, max}
+use Prim.Native.Nat.{ℕ, ◌≤◌, max}
 use Rattle.model.specs.Lists.{at, max_below}
 use Rattle.model.specs.Numbers.{column}
 use Rattle.model.specs.Clocks.{clock_at, known}

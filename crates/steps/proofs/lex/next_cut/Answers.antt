@@ -1,13 +1,12 @@
 -- `next_cut`: no tablet above the number can be raised, so the search goes on from there down with the counts as they were.
-use mathlib.Core.Path.{◌≡◌, refl, sym, ap, ◌∙◌, subst}
+use mathlib.Core.Path.{◌≡◌, sym, ap, ◌∙◌}
 use mathlib.Core.Bool.{true, false}
 use mathlib.Core.List.{List}
-use Prim.Native.Nat.{ℕ, ◌-◌, ◌≤◌, ◌<◌}
+use Prim.Native.Nat.{ℕ, ◌-◌}
 use native.Mathlib.Omega.{arith}
 use Rattle.model.specs.Clocks.{clock_at}
 use Rattle.model.specs.Step.{can_raise, raised, raise_below, step}
-use Rattle.model.proofs.Tests.{from_true}
-use Rattle.steps.specs.Walk.{Liftable, stepped, next_after}
+use Rattle.steps.specs.Walk.{stepped, next_after}
 use Rattle.steps.proofs.Below.{below_passed, below_found, step_from}
 use Rattle.steps.proofs.lex.next_cut.Goals as goal
 

@@ -1,6 +1,6 @@
 -- `next_cut`: no tablet above the number can be raised, so the search goes on from there down with the counts as they were.
 use mathlib.Core.Path.{◌≡◌}
-use Prim.Native.Nat.{◌-◌, ◌≤◌}
+use Prim.Native.Nat.{◌≤◌}
 use Rattle.model.specs.Clocks.{clock_at}
 use Rattle.model.specs.Step.{raise_below}
 use Rattle.steps.proofs.lex.next_cut.Given as goal

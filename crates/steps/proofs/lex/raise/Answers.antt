@@ -1,10 +1,9 @@
 -- `raise`: the columns before i are filled; the rest are as they were.
-use Prim.Native.Nat.{◌-◌, ◌<◌}
+use Prim.Native.Nat.{◌<◌}
 use native.Mathlib.Omega.{arith}
-use borrow.Author.Rules.{rules}
 use Rattle.model.specs.Numbers.{column}
 use Rattle.model.specs.Clocks.{clock_at}
-use Rattle.steps.proofs.Raise.{Filled, filled_more, needed_told, column_fits, next_fits, first_stored, filled_start, filled_end}
+use Rattle.steps.proofs.Raise.{filled_more, needed_told, column_fits, first_stored, filled_end}
 use Rattle.steps.proofs.lex.raise.Goals as goal
 
 pub least_entry-requires : goal.least_entry-requires

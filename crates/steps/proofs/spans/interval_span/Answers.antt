@@ -10,7 +10,6 @@ use Rattle.model.specs.Clocks.{clock_in}
 use Rattle.model.specs.Follow.{column_at, tallies}
 use Rattle.model.specs.Cuts.{gmin}
 use Rattle.steps.proofs.Bounding.{byte_positive, own_fits, count_low, count_high, slot_inside, gmin_read}
-use borrow.Author.Rules.{rules}
 use Rattle.steps.proofs.spans.interval_span.Goals as goal
 
 pub returns-then-p-eq0 : goal.returns-then-p-eq0

@@ -1,13 +1,6 @@
 -- `stored_clock`: the bytes read so far are the clock's first entries.
-use mathlib.Core.Path.{◌≡◌, refl, sym, ◌∙◌}
-use mathlib.Core.Logic.{by_cases}
-use Prim.Native.Nat.{ℕ, ◌+◌, ◌-◌, ◌*◌, ◌≤◌, ◌<◌}
+use mathlib.Core.Path.{sym, ◌∙◌}
 use native.Mathlib.Omega.{arith}
-use native.Mathlib.Decide.{ℕ_discrete}
-use native.Mathlib.Nat.{not-suc-le-zero}
-use lib.ListN.{length, get_or, length-set}
-use lib.Seq.{get_or-set_same, get_or-set_other}
-use Rattle.model.specs.Lists.{at}
 use Rattle.model.specs.Clocks.{clock_in}
 use Rattle.model.proofs.Entries.{same_entries}
 use Rattle.model.proofs.Slots.{at_clock, clock_in_long}

@@ -1,7 +1,6 @@
 -- `trace_span`: the empty cut and the tallies.
 use mathlib.Core.Path.{refl}
 use Rattle.model.specs.Lists.{zeros}
-use borrow.Author.Rules.{rules}
 use Rattle.steps.proofs.spans.trace_span.Goals as goal
 
 pub returns : goal.returns

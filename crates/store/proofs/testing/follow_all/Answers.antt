@@ -2,16 +2,13 @@
 use mathlib.Core.Path.{◌≡◌, refl, sym, ap, ◌∙◌, subst}
 use mathlib.Core.Bool.{false≢true}
 use mathlib.Core.List.{List}
-use Prim.Native.Nat.{ℕ, ◌+◌, ◌-◌, ◌≤◌, ◌<◌}
+use Prim.Native.Nat.{ℕ, ◌+◌, ◌-◌, ◌<◌}
 use native.Mathlib.Omega.{arith}
-use borrow.Author.Rules.{rules}
-use lib.Dec.{T}
 use lib.ListN.{get_or, set}
 use Rattle.model.specs.Lists.{at, eight}
 use Rattle.model.specs.Refusals.{verdict_number}
 use Rattle.model.specs.Clocks.{Clocks, clock_at, clock_of}
-use Rattle.model.specs.Follow.{tallies, event_at, follow_refusal, follow_to}
-use Rattle.model.proofs.Tests.{holds}
+use Rattle.model.specs.Follow.{tallies, event_at, follow_refusal}
 use Rattle.model.proofs.Refusals.{passed_zero, refused_some}
 use Rattle.model.proofs.Follow.{Follows, may_follow_lem}
 use Rattle.model.proofs.Valid.{at_tallies}

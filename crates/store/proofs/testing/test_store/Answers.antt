@@ -3,7 +3,6 @@ use mathlib.Core.Path.{◌≡◌, sym, ap, ap₂, ◌∙◌}
 use mathlib.Core.Bool.{Bool, true, cond, not}
 use Prim.Native.Nat.{◌≤◌}
 use native.Mathlib.Omega.{arith}
-use borrow.Author.Rules.{rules}
 use Rattle.model.specs.Refusals.{verdict_number, or_else}
 use Rattle.model.specs.Store.{Store, store_of, record_of, full_size, record_refusal, store_refusal}
 use Rattle.model.proofs.Tests.{from_true}

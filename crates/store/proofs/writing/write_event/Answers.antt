@@ -6,7 +6,6 @@ use Rattle.model.specs.Numbers.{column}
 use Rattle.model.specs.Store.{Store, store_of}
 use Rattle.model.proofs.Sound.{Full}
 use Rattle.store.proofs.Ready.{tested_full, tablet_positive, own_fits, count_room, slot_room, event_room, written}
-use borrow.Author.Rules.{rules}
 use Rattle.store.proofs.writing.write_event.Goals as goal
 
 pub overflow_sub-own : goal.overflow_sub-own

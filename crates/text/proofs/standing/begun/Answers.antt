@@ -1,7 +1,6 @@
 -- `begun`: where reading stands before its first turn.
 use mathlib.Core.Path.{ap}
 use mathlib.Core.Bool.{true, false}
-use borrow.Author.Rules.{rules}
 use Rattle.model.specs.declared.Record.{Record}
 use Rattle.model.specs.declared.Verdict.TheVariants.{Passed}
 use Rattle.model.specs.Lists.{zeros}

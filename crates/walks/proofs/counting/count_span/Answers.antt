@@ -1,14 +1,8 @@
 -- `count_span`: what is counted and what stands behind the cut make up the whole.
-use mathlib.Core.Path.{◌≡◌, ap}
-use mathlib.Core.List.{List, ◌∷◌}
-use Prim.Native.Nat.{ℕ, ◌+◌, ◌^◌, ◌<◌}
+use mathlib.Core.Path.{ap}
 use native.Mathlib.Omega.{arith}
-use borrow.Author.Tests.{not-true, not-false}
 use lib.ListN.{length}
-use Rattle.model.specs.Lists.{keep}
-use Rattle.model.specs.Lexical.{lex_before}
-use Rattle.steps.specs.Walk.{Standing}
-use Rattle.steps.proofs.Walks.{walked, walk_begins, all_from_first, walk_ends, walk_goes_on, walk_stands}
+use Rattle.steps.proofs.Walks.{walk_begins, all_from_first, walk_ends, walk_goes_on, walk_stands}
 use Rattle.walks.proofs.Counts.{counted_all, counted_over}
 use Rattle.walks.proofs.counting.count_span.Goals as goal
 

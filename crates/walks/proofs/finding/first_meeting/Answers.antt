@@ -1,19 +1,13 @@
 -- `first_meeting`: no cut passed so far meets the question, so the first is to be found from the cut on.
-use mathlib.Core.Path.{◌≡◌, sym, ap, ◌∙◌}
+use mathlib.Core.Path.{sym, ap, ◌∙◌}
 use mathlib.Core.List.{List}
 use Prim.Native.Nat.{ℕ}
 use native.Mathlib.Omega.{arith}
-use borrow.Author.Tests.{not-true, not-false}
 use lib.ListN.{length}
-use Rattle.model.specs.declared.Question.{Question}
 use Rattle.model.specs.Lists.{zeros, keep}
-use Rattle.model.specs.Store.{Store}
 use Rattle.model.specs.Lexical.{lex_before}
-use Rattle.model.specs.Questions.{meets, Witness, first_of}
-use Rattle.steps.specs.Walk.{Standing}
-use Rattle.steps.proofs.Walks.{walked, from_cut_lem, walk_begins, all_from_first, walk_ends, walk_goes_on, walk_stands}
-use Rattle.questions.specs.Holdings.{ForHeld}
-use Rattle.walks.proofs.Firsts.{first_here, first_skips, first_ends}
+use Rattle.steps.proofs.Walks.{walked, walk_begins, all_from_first, walk_ends, walk_goes_on, walk_stands}
+use Rattle.walks.proofs.Firsts.{first_skips, first_ends}
 use Rattle.walks.proofs.finding.first_meeting.Invariants.{first}
 use Rattle.walks.proofs.finding.first_meeting.Goals as goal
 

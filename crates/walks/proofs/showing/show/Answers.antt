@@ -1,16 +1,14 @@
 -- `show`: what is written so far, and what is still to be shown.
-use mathlib.Core.Path.{◌≡◌, ap, ◌∙◌}
+use mathlib.Core.Path.{ap, ◌∙◌}
 use mathlib.Core.List.{List}
-use Prim.Native.Nat.{ℕ, ◌+◌, ◌*◌, ◌≤◌}
+use Prim.Native.Nat.{ℕ, ◌+◌}
 use native.Mathlib.Omega.{arith}
-use borrow.Author.Tests.{not-true, not-false}
 use lib.ListN.{length}
 use Rattle.model.specs.Lists.{keep}
 use Rattle.model.specs.Lexical.{lex_before}
-use Rattle.steps.specs.Walk.{Standing}
 use Rattle.steps.proofs.Walks.{walked, walk_behind, walk_ends, walk_stays, walk_goes_on, walk_stands}
 use Rattle.walks.specs.Showing.{from_cut, place_behind}
-use Rattle.walks.proofs.Progress.{Progress, Written, progress_start, progress_on, same_long, progress_more, progress_ends, progress_full}
+use Rattle.walks.proofs.Progress.{Written, progress_on, same_long, progress_more, progress_ends, progress_full}
 use Rattle.walks.proofs.showing.show.Goals as goal
 
 pub returns-then-out-written-lt8 : goal.returns-then-out-written-lt8

@@ -2,7 +2,6 @@
 use mathlib.Core.Path.{ap, ◌∙◌}
 use Prim.Native.Nat.{ℕ, ◌-◌}
 use native.Mathlib.Omega.{arith}
-use borrow.Author.Rules.{rules}
 use Rattle.model.specs.Store.{Store, store_of}
 use Rattle.pieces.specs.Pieces.{grown, empty_piece}
 use Rattle.writer.proofs.Pieces.{placed, widths, home_low, clock_inside, held_inside, part_long, event_text_lem}

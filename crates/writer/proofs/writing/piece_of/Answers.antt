@@ -1,7 +1,6 @@
 -- `piece_of`: the first, an event's or the last.
 use mathlib.Core.Path.{sym, ap, ◌∙◌}
 use native.Mathlib.Omega.{arith}
-use borrow.Author.Rules.{rules}
 use Rattle.model.specs.Store.{Store, store_of}
 use Rattle.pieces.specs.Lines.{key_line}
 use Rattle.pieces.specs.Pieces.{grown, empty_piece}

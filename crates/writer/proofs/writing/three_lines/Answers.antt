@@ -1,11 +1,8 @@
 -- `three_lines`: one line behind the other, 60 bytes at most.
-use mathlib.Core.Path.{◌≡◌}
 use Prim.Native.Nat.{◌≤◌}
 use native.Mathlib.Omega.{arith}
-use borrow.Author.Rules.{rules}
 use lib.ListN.{length, take}
 use Rattle.pieces.specs.Lines.{key_line, list_line}
-use Rattle.pieces.proofs.Lengths.{small_take}
 use Rattle.pieces.proofs.Putting.{put_length, empty_length}
 use Rattle.loglines.specs.Keys.{tablet_key, clock_key, held_key}
 use Rattle.writer.proofs.Pieces.{tablet_line, clock_line_lem, held_line, lines_put}
