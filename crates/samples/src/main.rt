@@ -5,21 +5,40 @@
 ghost use Rattle.std.specs.Prelude.{◌≤◌};
 ghost use Rattle.io.specs.Counts.{IsPrefixLen};
 
-use libc::STDOUT_FILENO;
 use report::{CLOCKS_SIZE, INPUT_SIZE, OUTPUT_SIZE, SLOTS};
+use std::fs::File;
+use std::io::Read;
+use std::rt::Files;
 
-// Reads a file to the front of buf. A file that cannot be opened is said on standard error, and counts as empty.
-fn load(path: &[u8], buf: &mut [u8]) -> usize
+// The file descriptor of standard output.
+const STDOUT: i32 = 1;
+
+// Reads to the front of buf until it is full, the file ends or a read fails.
+fn fill(file: &mut impl Read, buf: &mut [u8]) -> usize
     ensures { IsPrefixLen result buf.new }
 {
-    let fd = os::open_read(path);
-    if fd < 0 {
-        os::fail(path);
-        return io::count(0, buf);
+    let mut done = 0;
+    while done < buf.len() {
+        match file.read(&mut buf[done..]) {
+            Ok(count) if count > 0 => done += count,
+            _ => break,
+        }
     }
-    let length = io::read_full(fd, buf);
-    libc::close(fd);
-    length
+    done
+}
+
+// Reads a file to the front of buf. A file that cannot be opened is said on standard error, and counts as empty.
+fn load(rt: &(impl Files + Eprint), path: &str, buf: &mut [u8]) -> usize
+    ensures { IsPrefixLen result buf.new }
+{
+    match File::open(rt, path) {
+        Ok(mut file) => fill(&mut file, buf),
+        Err(error) => {
+            // Nobody is left to tell where standard error fails too.
+            let _ = eprintln!(rt; "{path}: {error}");
+            0
+        }
+    }
 }
 
 // The first index at which two texts differ, or the shorter one's length where the other begins with it.
@@ -71,33 +90,33 @@ fn is_same(made: &[u8], stored: &[u8], at: usize) -> bool {
 fn tell(made: &[u8], stored: &[u8]) {
     let at = first_difference(made, stored);
     if is_same(made, stored, at) {
-        io::write_all(STDOUT_FILENO, b" same\n");
+        io::write_all(STDOUT, b" same\n");
         return;
     }
-    io::write_all(STDOUT_FILENO, b" DIFFERENT at byte index ");
-    io::print_decimal(STDOUT_FILENO, at as u64);
-    io::write_all(STDOUT_FILENO, b", line ");
-    io::print_decimal(STDOUT_FILENO, line_of(made, at) as u64);
-    io::write_all(STDOUT_FILENO, b"\n");
+    io::write_all(STDOUT, b" DIFFERENT at byte index ");
+    io::print_decimal(STDOUT, at as u64);
+    io::write_all(STDOUT, b", line ");
+    io::print_decimal(STDOUT, line_of(made, at) as u64);
+    io::write_all(STDOUT, b"\n");
 }
 
 fn compare_report(out: &[u8], length: usize, stored: &[u8]) {
     if length <= out.len() {
         tell(&out[..length], stored);
     } else {
-        io::write_all(STDOUT_FILENO, b" DIFFERENT, longer than its output\n");
+        io::write_all(STDOUT, b" DIFFERENT, longer than its output\n");
     }
 }
 
-fn compare(day: &[u8], answer: &[u8]) {
+fn compare(rt: &(impl Files + Eprint), day: &str, answer: &str) {
     let mut input = [0u8; INPUT_SIZE];
     let mut stored = [0u8; OUTPUT_SIZE + 1];
     let mut clocks = [0u8; CLOCKS_SIZE];
     let mut held = [0u16; SLOTS];
     let mut order = [0u8; SLOTS];
     let mut out = [0u8; OUTPUT_SIZE];
-    let given = load(day, &mut input);
-    let expected = load(answer, &mut stored);
+    let given = load(rt, day, &mut input);
+    let expected = load(rt, answer, &mut stored);
     let reported = report::make_report(
         &input[..given],
         &mut clocks,
@@ -105,24 +124,24 @@ fn compare(day: &[u8], answer: &[u8]) {
         &mut order,
         &mut out,
     );
-    io::write_all(STDOUT_FILENO, day);
+    io::write_all(STDOUT, day.as_bytes());
     compare_report(&out, reported.length, &stored[..expected]);
 }
 
 // A program cannot list a folder, so each day is named here; .ci/run fails where data/ has a file that is not.
-fn main() {
-    compare(b"clean-handover.txt", b"clean-handover.answer");
-    compare(b"held-twice.txt", b"held-twice.answer");
-    compare(b"missing-handover.txt", b"missing-handover.answer");
-    compare(b"restarted-tablet.txt", b"restarted-tablet.answer");
-    compare(b"hand-edit.txt", b"hand-edit.answer");
-    compare(b"eight-at-nine.txt", b"eight-at-nine.answer");
-    compare(b"named-set.txt", b"named-set.answer");
-    compare(b"noon-count.txt", b"noon-count.answer");
-    compare(b"long-day.txt", b"long-day.answer");
-    compare(b"full-day.txt", b"full-day.answer");
-    compare(b"two-days.txt", b"two-days.answer");
-    compare(b"busy-desk.txt", b"busy-desk.answer");
-    compare(b"mistyped-question.txt", b"mistyped-question.answer");
-    compare(b"tablet-not-in-use.txt", b"tablet-not-in-use.answer");
+fn main(rt: HostRuntime) {
+    compare(&rt, "clean-handover.txt", "clean-handover.answer");
+    compare(&rt, "held-twice.txt", "held-twice.answer");
+    compare(&rt, "missing-handover.txt", "missing-handover.answer");
+    compare(&rt, "restarted-tablet.txt", "restarted-tablet.answer");
+    compare(&rt, "hand-edit.txt", "hand-edit.answer");
+    compare(&rt, "eight-at-nine.txt", "eight-at-nine.answer");
+    compare(&rt, "named-set.txt", "named-set.answer");
+    compare(&rt, "noon-count.txt", "noon-count.answer");
+    compare(&rt, "long-day.txt", "long-day.answer");
+    compare(&rt, "full-day.txt", "full-day.answer");
+    compare(&rt, "two-days.txt", "two-days.answer");
+    compare(&rt, "busy-desk.txt", "busy-desk.answer");
+    compare(&rt, "mistyped-question.txt", "mistyped-question.answer");
+    compare(&rt, "tablet-not-in-use.txt", "tablet-not-in-use.answer");
 }

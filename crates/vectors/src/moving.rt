@@ -1,5 +1,4 @@
-// The listing through a lent place, called as one by value. A function that lends a struct of its own is proved by hand, so this
-// one does nothing else; what it promises is what `list` does.
+// The listing through a lent place, called as one by value: it lends a place of its own, and promises what `list` does.
 ghost use Rattle.std.specs.Prelude.{◌≡◌};
 ghost use Rattle.model.specs.Store.{store_of};
 ghost use Rattle.cuts.specs.Listing.{listed, listing};
