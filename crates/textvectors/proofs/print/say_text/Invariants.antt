@@ -1,5 +1,5 @@
 -- `textvectors::print::say_text` is safe and ends. Nothing has to hold from turn to turn; the measure is what is left to count.
-use Rattle.std.proofs.Common.{◌-◌, length}
+use Rattle.std.proofs.Common.{◌-◌}
 use Rattle.textvectors.proofs.print.say_text.Given as goal
 
 abbrev pub invariant-loop-i : goal.invariant-loop-i

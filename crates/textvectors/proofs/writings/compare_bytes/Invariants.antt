@@ -1,5 +1,5 @@
 -- `textvectors::writings::compare_bytes` is safe and ends. Nothing has to hold from turn to turn; the measure is what is left to count.
-use Rattle.std.proofs.Common.{◌-◌, length}
+use Rattle.std.proofs.Common.{◌-◌}
 use Rattle.textvectors.proofs.writings.compare_bytes.Given as goal
 
 abbrev pub invariant-loop-i : goal.invariant-loop-i
