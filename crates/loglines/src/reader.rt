@@ -1,5 +1,5 @@
-// The text reader: a text where it lies, and how far it has been read, in bytes and in lines. Only two functions take or give one,
-// since each is proved by hand: a reader is made and moved on. What it looks at is read by functions over plain slices.
+// The text reader: a text where it lies, and how far it has been read, in bytes and in lines. Only two functions take or give one:
+// a reader is made and moved on. What it looks at is read by functions over plain slices.
 ghost use Rattle.std.specs.Prelude.{◌≡◌};
 
 #[derive(Drop)]

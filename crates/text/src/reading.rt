@@ -41,7 +41,7 @@ fn take_turn(
 }
 
 // The reader is made over the text, moved to where each step has come, and its own line is the answer's. What a turn does is
-// all below `take_turn`, since this loop, which holds the reader, is proved by hand.
+// all below `take_turn`.
 pub(crate) fn read_lines(
     text: &[u8],
     clocks: &mut [u8],
