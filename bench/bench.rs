@@ -7,7 +7,7 @@ const PER_TABLET: usize = 254;
 const SLOTS: usize = 2032;
 const CLOCK_BYTES: usize = 16256;
 
-/// The proved library, target/staticlib/libexports.a. A slice is a pointer and a length.
+/// The proved library, target/bench/libexports.a. A slice is a pointer and a length.
 mod proved {
     use super::Trace;
 
