@@ -1,14 +1,18 @@
 -- Laws of bytes placed in an output.
 use mathlib.Core.Path.{◌≡◌, sym, ap, ◌∙◌}
-use mathlib.Core.List.{List, [], ◌++◌, append_assoc, append-nil}
-use Prim.Native.Nat.{ℕ, ◌+◌, ◌-◌, ◌≤◌}
+use mathlib.Core.List.{List, [], ◌∷◌, ◌++◌, append_assoc, append-nil}
+use Prim.Native.Nat.{ℕ, suc, ◌+◌, ◌-◌, ◌≤◌}
 use native.Mathlib.Omega.{arith}
 use borrow.Rule.Slice.PartMut.{put_mid}
-use lib.ListN.{length, take, drop, length-drop, drop_of_length-le}
+use lib.ListN.{length, take, drop, set, length-drop, drop_of_length-le}
 use lib.Seq.{sets, sets-eq, take_all, drop-drop}
-use Rattle.pieces.specs.declared.Piece.{Piece}
-use Rattle.pieces.specs.Pieces.{piece_room, grown, empty_piece, contents}
-use Rattle.pieces.proofs.Growing.{put_contents}
+
+-- bytes behind bytes
+pub sets_append : (l : List ℕ) (a : ℕ) (xs ys : List ℕ) → sets (sets l a xs) (a + length xs) ys ≡ sets l a (xs ++ ys)
+sets_append l a [] ys = let e : a + 0 ≡ a = omega arith in ap (λ (i : ℕ). sets l i ys) e
+sets_append l a (x ∷ xs) ys =
+    let e : a + suc (length xs) ≡ suc a + length xs = omega arith in
+    ap (λ (i : ℕ). sets (sets (set l a x) (suc a) xs) i ys) e ∙ sets_append (set l a x) (suc a) xs ys
 
 -- written at offset 0
 pub sets_front : (out text : List ℕ) → length text ≤ length out → sets out 0 text ≡ text ++ drop (length text) out
@@ -16,10 +20,6 @@ sets_front out text fits =
     let none : 0 + length text ≡ length text = omega arith in
     let h : 0 + length text ≤ length out = omega arith in
     sets-eq text out 0 h ∙ ap (λ (k : ℕ). text ++ drop k out) none
-
--- a piece is its text
-pub piece_text_lem : (p : Piece) (text : List ℕ) → p ≡ grown empty_piece text → length text ≤ piece_room → take p.length p.bytes ≡ text
-piece_text_lem p text is fits = ap contents is ∙ put_contents text fits
 
 -- bytes written at the front of the part behind an offset, and put back
 pub part_sets : (out : List ℕ) (from : ℕ) (bytes : List ℕ) → from + length bytes ≤ length out → put_mid from (length out - from) out (sets (take (length out - from) (drop from out)) 0 bytes) ≡ sets out from bytes

@@ -1,9 +1,9 @@
 -- How the lines of an answer stand in an output.
-use Rattle.std.specs.Prelude.{◌≡◌, List, ℕ, ◌+◌, ◌≤◌, length}
+use Rattle.std.specs.Prelude.{◌≡◌, List, ℕ, ◌+◌, ◌≤◌, length, Option, None, Some}
 use Rattle.std.proofs.lemmas.List.Edits.{sets}
 use Rattle.model.specs.declared.Record.{Record}
-use Rattle.pieces.specs.declared.Piece.{Piece}
-use Rattle.pieces.specs.Pieces.{piece_room, grown, empty_piece}
+use Rattle.model.specs.declared.Cut.{Cut}
+use Rattle.model.specs.Lists.{zeros}
 
 -- Our choice, since document 01 has no rule for a report's output: it has 71,680 bytes or more, as the store's buffers are of
 -- full size, and a shorter one is refused 14 before all else and left as it was. No report is longer than 71,243 bytes: tablets
@@ -11,19 +11,18 @@ use Rattle.pieces.specs.Pieces.{piece_room, grown, empty_piece}
 abbrev pub room : ℕ
 room = 71680
 
--- what writing an answer may assume: a number of tablets and of events, a count for each position, eight entries, the room
-pub record Writable (r : Record) (counts cut out : List ℕ) : Type 0 where
+-- the entries of a witness that is handed over, and zeros where there is none
+abbrev pub witness_entries : Option Cut → List ℕ
+witness_entries None = zeros
+witness_entries (Some cut) = cut.counts
+
+-- what writing an answer may assume: a number of tablets and of events, a count for each position, the room
+pub record Writable (r : Record) (counts out : List ℕ) : Type 0 where
   pub some : 1 ≤ r.tablets
   pub most : r.tablets ≤ 8
   pub few : r.events ≤ 2032
   pub counted : 2033 ≤ length counts
-  pub entries : 8 ≤ length cut
   pub fits : room ≤ length out
-
--- a piece that has a text and nothing else
-pub record Holds (piece : Piece) (text : List ℕ) : Type 0 where
-  pub holds : piece ≡ grown empty_piece text
-  pub short : length text ≤ piece_room
 
 -- lines written at an offset: the offset behind them, and the output at exit
 pub record LinesAt (out : List ℕ) (at : ℕ) (lines : List ℕ) (behind : ℕ) (exit : List ℕ) : Type 0 where

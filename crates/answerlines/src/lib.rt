@@ -1,15 +1,16 @@
-// The lines that `cutcheck` prints for an answer, one behind the other in the output. Nothing here knows a store.
+// The lines that `cutcheck` prints for an answer, one behind the other in the output. Nothing here knows a store. Each function
+// writes to the front of the output that it is lent, and gives how many bytes it wrote.
 #![tactic(auto)]
 
-ghost use Rattle.std.specs.Prelude.{◌≡◌, List, ℕ, ◌+◌, ◌*◌, ◌≤◌, length};
+ghost use Rattle.std.specs.Prelude.{◌≡◌, ◌+◌, ◌++◌, ◌*◌, ◌≤◌, length, is_some};
 ghost use Rattle.model.specs.Lists.{at};
-ghost use Rattle.pieces.specs.Pieces.{piece_room, grown, empty_piece};
-ghost use Rattle.answerlines.specs.Printing.{interval_lines, witness_line, head_lines, tail_lines, answer_lines};
-ghost use Rattle.answerlines.specs.Outputs.{room, Holds, Writable, LinesAt};
+ghost use Rattle.pieces.specs.Lines.{list_line, pair_line};
+ghost use Rattle.answerlines.specs.Printing.{interval_key, interval_lines, witness_key, witness_line, head_lines, tail_lines, answer_lines};
+ghost use Rattle.answerlines.specs.Outputs.{room, witness_entries, Writable, LinesAt};
 
 use loglines::keys::{EVENTS, TABLETS};
-use model::Record;
-use pieces::{Piece, copy_out, empty_piece, put_bytes, put_line, put_list, put_pair};
+use model::{Cut, Record};
+use pieces::{Piece, empty_piece};
 
 const INTERVAL: [u8; 9] = *b"interval=";
 
@@ -19,59 +20,76 @@ const WITNESS: [u8; 8] = *b"witness=";
 
 const NO_WITNESS: [u8; 13] = *b"witness=none\n";
 
-// A piece at an offset of the output; gives the offset behind it.
-fn add_piece(piece: Piece, at: usize, out: &mut [u8]) -> usize
-    requires { (piece.length ≤ piece_room) × (at + piece.length ≤ length out.old) }
-    ensures { (text : List ℕ) → Holds piece text → LinesAt out.old at text result out.new }
-{
-    copy_out(piece, &mut out[at..]);
-    at + piece.length
-}
-
-// `tablets` and `events`, at the front.
+// `tablets` and `events`.
+#[tactic(auto, using(crate::proofs::Lines::tablets_most, crate::proofs::Lines::events_most))]
 fn add_head(record: Record, out: &mut [u8]) -> usize
     requires { («record».tablets ≤ 8) × («record».events ≤ 2032) × (22 ≤ length out.old) }
     ensures { (result ≤ 22) × LinesAt out.old 0 (head_lines «record».tablets «record».events) result out.new }
 {
-    let first = put_line(empty_piece(), &TABLETS, record.tablets as u64);
-    let head = put_line(first, &EVENTS, record.events as u64);
-    add_piece(head, 0, out)
+    let mut head = empty_piece();
+    head.put_line(&TABLETS, record.tablets as u64);
+    head.put_line(&EVENTS, record.events as u64);
+    head.copy_out(out);
+    head.len()
 }
 
-// The lines of all intervals, from an offset on.
-fn add_intervals(counts: &[u64], events: usize, from: usize, out: &mut [u8]) -> usize
-    requires { (events ≤ 2032) × (2033 ≤ length counts.now) × (from + 35 * (events + 1) ≤ length out.old) }
-    ensures { (result ≤ from + 35 * (events + 1)) × LinesAt out.old from (interval_lines (at counts.now) (events + 1)) result out.new }
+// The line of an interval.
+#[tactic(auto, using(crate::proofs::Lines::interval_most))]
+fn add_interval(p: usize, count: u64, out: &mut [u8]) -> usize
+    requires { (p ≤ 2032) × (35 ≤ length out.old) }
+    ensures { (result ≤ 35) × LinesAt out.old 0 (pair_line interval_key p count) result out.new }
 {
-    let mut behind = from;
-    let mut p: usize = 0;
-    while p <= events {
-        let line = put_pair(empty_piece(), &INTERVAL, p as u64, counts[p]);
-        behind = add_piece(line, behind, out);
-        p += 1;
+    let mut line = empty_piece();
+    line.put_pair(&INTERVAL, p as u64, count);
+    line.copy_out(out);
+    line.len()
+}
+
+// The lines of all intervals, by their counts.
+fn add_intervals(counts: &[u64], out: &mut [u8]) -> usize
+    requires { (length counts.now ≤ 2033) × (35 * length counts.now ≤ length out.old) }
+    ensures { (result ≤ 35 * length counts.now) × LinesAt out.old 0 (interval_lines (at counts.now) (length counts.now)) result out.new }
+{
+    let mut length = 0;
+    for (p, count) in counts.iter().enumerate() {
+        length += add_interval(p, *count, &mut out[length..]);
     }
-    behind
+    length
 }
 
-fn put_witness(n: usize, found: bool, cut: &[u8]) -> Piece
-    requires { (1 ≤ n) × (n ≤ 8) × (8 ≤ length cut.now) }
-    ensures { (result ≡ grown empty_piece (witness_line n found cut.now)) × (result.length ≤ 40) }
+// `witness` with a cut's entries.
+fn put_cut(line: &mut Piece, entries: &[u8])
+    requires { (1 ≤ length entries.now) × (length entries.now ≤ 8) × (length line.old ≤ 56) }
+    ensures put { line.new ≡ line.old ++ list_line witness_key entries.now }
+    ensures short { length line.new ≤ length line.old + 40 }
 {
-    if !found {
-        return put_bytes(empty_piece(), &NO_WITNESS);
+    line.put_list(&WITNESS, entries);
+}
+
+// `witness` with the first n entries of a cut, or with `none`.
+#[tactic(auto, unfolding(crate::specs::Printing::witness_line))]
+fn put_witness(line: &mut Piece, n: usize, witness: Option<Cut>)
+    requires { (1 ≤ n) × (n ≤ 8) × (length line.old ≤ 56) }
+    ensures put { line.new ≡ line.old ++ witness_line n (is_some witness) (witness_entries witness) }
+    ensures short { length line.new ≤ length line.old + 40 }
+{
+    match witness {
+        Some(cut) => put_cut(line, &cut.counts[..n]),
+        None => line.put_bytes(&NO_WITNESS),
     }
-    put_list(empty_piece(), &WITNESS, cut, n)
 }
 
-// `cuts` and `witness`, at an offset.
-fn add_tail(n: usize, sum: u64, found: bool, cut: &[u8], at: usize, out: &mut [u8]) -> usize
-    requires { (1 ≤ n) × (n ≤ 8) × (8 ≤ length cut.now) × (at + 66 ≤ length out.old) }
-    ensures { (result ≤ at + 66) × LinesAt out.old at (tail_lines n sum found cut.now) result out.new }
+// `cuts` and `witness`.
+#[tactic(auto, using(crate::proofs::Lines::cuts_most))]
+fn add_tail(n: usize, sum: u64, witness: Option<Cut>, out: &mut [u8]) -> usize
+    requires { (1 ≤ n) × (n ≤ 8) × (66 ≤ length out.old) }
+    ensures { (result ≤ 66) × LinesAt out.old 0 (tail_lines n sum (is_some witness) (witness_entries witness)) result out.new }
 {
-    let total = put_line(empty_piece(), &CUTS, sum);
-    let last = add_piece(total, at, out);
-    let witness = put_witness(n, found, cut);
-    add_piece(witness, last, out)
+    let mut tail = empty_piece();
+    tail.put_line(&CUTS, sum);
+    put_witness(&mut tail, n, witness);
+    tail.copy_out(out);
+    tail.len()
 }
 
 // All lines of an answer; gives their length.
@@ -79,14 +97,15 @@ pub fn write_answer(
     record: Record,
     counts: &[u64],
     sum: u64,
-    found: bool,
-    cut: &[u8],
+    witness: Option<Cut>,
     out: &mut [u8],
 ) -> usize
-    requires { Writable «record» counts.now cut.now out.old }
-    ensures { (result ≤ room) × LinesAt out.old 0 (answer_lines «record».tablets «record».events (at counts.now) sum found cut.now) result out.new }
+    requires { Writable «record» counts.now out.old }
+    ensures { (result ≤ room) × LinesAt out.old 0 (answer_lines «record».tablets «record».events (at counts.now) sum (is_some witness) (witness_entries witness)) result out.new }
 {
-    let from = add_head(record, out);
-    let behind = add_intervals(counts, record.events as usize, from, out);
-    add_tail(record.tablets as usize, sum, found, cut, behind, out)
+    let mut length = add_head(record, out);
+    let events = record.events as usize;
+    length += add_intervals(&counts[..=events], &mut out[length..]);
+    length += add_tail(record.tablets as usize, sum, witness, &mut out[length..]);
+    length
 }

@@ -1,46 +1,45 @@
 -- Ask lines that are easy to get wrong, as one table of tests.
-use Rattle.std.specs.Prelude.{ℕ, ◌-◌, Bool, true, false, ◌&&◌, List, [], ◌∷◌, ◌++◌, eqb}
+use Rattle.std.specs.Prelude.{ℕ, ◌-◌, Bool, true, false, List, [], ◌∷◌, ◌++◌, Option, Some, None, eqb}
+use Rattle.model.specs.declared.Question.{Question}
 use Rattle.model.specs.declared.Question.TheVariants.{AtLeast, Exactly, All}
 use Rattle.model.specs.Lists.{all_below, keep}
 use Rattle.model.specs.Questions.{names}
-use Rattle.askline.specs.declared.AskLine.{AskLine}
-use Rattle.askline.specs.declared.AskLine.TheVariants.{Ask, Faulty}
-use Rattle.askline.specs.declared.sets.Named.{Named}
 use Rattle.askline.specs.Sets.{naming}
 use Rattle.askline.specs.Ask.{at_least_key, exactly_key, all_key, ask_line}
 
-abbrev pub at_least : ℕ → AskLine → Bool
-at_least k (Ask (AtLeast j)) = eqb j k
-at_least k (Ask (Exactly j)) = false
-at_least k (Ask (All mask)) = false
-at_least k Faulty = false
+abbrev pub at_least : ℕ → Option Question → Bool
+at_least k (Some (AtLeast j)) = eqb j k
+at_least k (Some (Exactly j)) = false
+at_least k (Some (All mask)) = false
+at_least k None = false
 
-abbrev pub exactly : ℕ → AskLine → Bool
-exactly k (Ask (AtLeast j)) = false
-exactly k (Ask (Exactly j)) = eqb j k
-exactly k (Ask (All mask)) = false
-exactly k Faulty = false
+abbrev pub exactly : ℕ → Option Question → Bool
+exactly k (Some (AtLeast j)) = false
+exactly k (Some (Exactly j)) = eqb j k
+exactly k (Some (All mask)) = false
+exactly k None = false
 
-abbrev pub all : ℕ → AskLine → Bool
-all mask (Ask (AtLeast j)) = false
-all mask (Ask (Exactly j)) = false
-all mask (Ask (All m)) = eqb m mask
-all mask Faulty = false
+abbrev pub all : ℕ → Option Question → Bool
+all mask (Some (AtLeast j)) = false
+all mask (Some (Exactly j)) = false
+all mask (Some (All m)) = eqb m mask
+all mask None = false
 
-abbrev pub faulty : AskLine → Bool
-faulty (Ask question) = false
-faulty Faulty = true
+abbrev pub faulty : Option Question → Bool
+faulty (Some question) = false
+faulty None = true
 
 -- the line of a key and what stands behind it (digits are the bytes 48 to 57, a comma is 44), with the line that follows it
-abbrev pub line : List ℕ → List ℕ → AskLine
+abbrev pub line : List ℕ → List ℕ → Option Question
 line key value = ask_line (key ++ (value ++ (10 ∷ 116 ∷ 10 ∷ [])))
 
 -- the tablets that a mask names, and that their list gives that mask back: of every set
 abbrev pub tablets_of : ℕ → List ℕ
 tablets_of mask = keep (λ tablet. names mask (tablet - 1)) (1 ∷ 2 ∷ 3 ∷ 4 ∷ 5 ∷ 6 ∷ 7 ∷ 8 ∷ [])
 
-abbrev pub gives : Named → ℕ → Bool
-gives set mask = set.fits && eqb set.mask mask
+abbrev pub gives : Option ℕ → ℕ → Bool
+gives None mask = false
+gives (Some m) mask = eqb m mask
 
 abbrev pub every_set : Bool
 every_set = all_below 256 (λ mask. gives (naming 0 0 (tablets_of mask)) mask)

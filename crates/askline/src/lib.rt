@@ -7,7 +7,7 @@ ghost use Rattle.std.specs.Prelude.{◌≡◌};
 ghost use Rattle.askline.specs.Ask.{ask_line, exactly_form, all_form};
 
 use lines::find::{line_length, value};
-use lines::numbers::{Number, read_number};
+use lines::numbers::read_number;
 use model::Question;
 use sets::read_set;
 
@@ -17,40 +17,29 @@ const EXACTLY: [u8; 12] = *b"ask=exactly,";
 
 const ALL: [u8; 8] = *b"ask=all,";
 
-// What an ask line says.
-#[derive(Clone, Copy)]
-pub enum AskLine {
-    Ask(Question),
-    Faulty,
-}
-
-fn read_all(line: &[u8]) -> AskLine
+#[tactic(auto, unfolding(crate::specs::Ask::all_form))]
+fn read_all(line: &[u8]) -> Option<Question>
     ensures { result ≡ all_form line.now }
 {
-    let set = read_set(value(line, &ALL));
-    if !set.fits {
-        return AskLine::Faulty;
-    }
-    AskLine::Ask(Question::All(set.mask))
+    read_set(value(line, &ALL)).map(Question::All)
 }
 
-fn read_exactly(line: &[u8]) -> AskLine
+#[tactic(auto, unfolding(crate::specs::Ask::exactly_form))]
+fn read_exactly(line: &[u8]) -> Option<Question>
     ensures { result ≡ exactly_form line.now }
 {
-    let Number::Value(k) = read_number(value(line, &EXACTLY), 4294967295) else {
-        return read_all(line);
-    };
-    AskLine::Ask(Question::Exactly(k))
+    read_number(value(line, &EXACTLY), u32::MAX)
+        .map(Question::Exactly)
+        .or_else(|| read_all(line))
 }
 
-// The question in the input's first line.
-pub fn read_ask(input: &[u8]) -> AskLine
+// The question in the input's first line, where it asks one.
+#[tactic(auto, using(lines::proofs::Parts::line_lent), unfolding(crate::specs::Ask::ask_line, crate::specs::Ask::ask_of))]
+pub fn read_ask(input: &[u8]) -> Option<Question>
     ensures { result ≡ ask_line input.now }
 {
-    let end = line_length(input);
-    let line = &input[..end];
-    let Number::Value(k) = read_number(value(line, &AT_LEAST), 4294967295) else {
-        return read_exactly(line);
-    };
-    AskLine::Ask(Question::AtLeast(k))
+    let line = &input[..line_length(input)];
+    read_number(value(line, &AT_LEAST), u32::MAX)
+        .map(Question::AtLeast)
+        .or_else(|| read_exactly(line))
 }

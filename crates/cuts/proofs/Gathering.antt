@@ -1,5 +1,5 @@
 -- Gathering, interval by interval: what is written so far, and the ways it ends or goes on.
-use mathlib.Core.Path.{◌≡◌, refl, sym, ap, ap₂, ◌∙◌}
+use mathlib.Core.Path.{◌≡◌, refl, sym, ap, ap₂, ◌∙◌, subst}
 use mathlib.Core.Logic.{by_cases}
 use mathlib.Core.Bool.{Bool, true, cond}
 use mathlib.Core.List.{List, [], ◌∷◌, ◌++◌, append_assoc, append-nil}
@@ -14,10 +14,11 @@ use lib.Seq.{take_all, take_at, drop_at, drop-length, drop-drop, take-append-add
 use Rattle.model.specs.declared.Place.{Place}
 use Rattle.model.specs.Store.{Store}
 use Rattle.model.specs.Cuts.{interval}
-use Rattle.cuts.specs.declared.Listing.{Listing}
-use Rattle.cuts.specs.declared.Listing.TheVariants.{More}
-use Rattle.cuts.specs.declared.Listed.{Listed}
-use Rattle.cuts.specs.Listing.{flat, room, written, behind_all, done, more, listing_number, listing_said, ListOutcome, listed, refused_listing, shown_from, list_in, fresh}
+use Rattle.std.specs.Prelude.{Ok, Err}
+use Rattle.model.specs.declared.Refusal.{Refusal}
+use Rattle.model.proofs.Refusals.{number_positive}
+use Rattle.walks.specs.declared.showing.Listed.{Listed}
+use Rattle.cuts.specs.Listing.{flat, room, written, behind_all, done, more, ListOutcome, listed, shown_from, list_in, fresh}
 use Rattle.cuts.specs.Gathering.{gathered, joined, stands_in, gathered_from}
 use Rattle.cuts.proofs.Members.{interval_wide, flat_long, flat_append}
 
@@ -97,6 +98,9 @@ pub record UpTo (s : Store) (first p w : ℕ) (out₀ out : List ℕ) : Type 0 w
   pub fits : 8 * w + 8 ≤ length out₀
   pub output : out ≡ written (joined s first (p - first)) out₀
 
+pub up_to_same : {s : Store} {first p q w : ℕ} {out₀ out : List ℕ} → UpTo s first p w out₀ out → p ≡ q → UpTo s first q w out₀ out
+up_to_same {s} {first} {p} {q} {w} {out₀} {out} u e = subst (λ (r : ℕ). UpTo s first r w out₀ out) e u
+
 pub up_to_start : (s : Store) (first : ℕ) (out : List ℕ) → 8 ≤ length out → UpTo s first first 0 out out
 up_to_start s first out fits =
     let zeroth : first - first ≡ 0 = omega arith in
@@ -108,7 +112,15 @@ up_to_start s first out fits =
       output = sym (ap (λ (l : List (List ℕ)). written l out) none);
     }
 
-module _ (s : Store) (first p w : ℕ) (out₀ out : List ℕ) (u : UpTo s first p w out₀ out) where
+-- The interval that is listed now, up to a last one of the trace, each of which has a cut; and what its listing has answered and
+-- left in the part of the output that it was lent.
+pub record Here (s : Store) (p w last : ℕ) (out₀ : List ℕ) (r : Listed) (part : List ℕ) : Type 0 where
+  pub some : (q : ℕ) → q ≤ s.events → 1 ≤ length (interval s q)
+  pub upto : p ≤ last
+  pub within : last ≤ s.events
+  pub told : listed fresh (Ok r) part ≡ shown_from (interval s p) fresh (drop (8 * w) out₀)
+
+module _ {s : Store} {first p w : ℕ} {out₀ out : List ℕ} (u : UpTo s first p w out₀ out) where
   abbrev before : List (List ℕ)
   before = joined s first (p - first)
 
@@ -143,6 +155,9 @@ module _ (s : Store) (first p w : ℕ) (out₀ out : List ℕ) (u : UpTo s first
       (drop-drop (length out - 8 * w) (8 * w) out ∙ ap (λ (m : ℕ). drop m out) all ∙ drop-length out)
       ∙ ap (λ (l : List ℕ). flat before ++ l) (append-nil part)
 
+  pub put_long : (part : List ℕ) → length part ≡ length (take (length out - 8 * w) (drop (8 * w) out)) → length (put_mid (8 * w) (length out - 8 * w) out part) ≡ length out₀
+  put_long part e = ap length (put_is part) ∙ length-append (flat before) part ∙ omega (arith, front_long, e, ap length part_is, behind_long, u.fits)
+
   next : joined s first (suc (p - first)) ≡ before ++ interval s p
   next =
       let e : first + (p - first) ≡ p = omega (arith, u.from) in
@@ -155,25 +170,24 @@ module _ (s : Store) (first p w : ℕ) (out₀ out : List ℕ) (u : UpTo s first
   fitting : take (room out₀) (before ++ interval s p) ≡ before ++ shown
   fitting = ap (λ (m : ℕ). take m (before ++ interval s p)) rooms ∙ take-append-add before (interval s p) (room behind)
 
-  -- the listing of interval p from a place not begun
-  pub listed_here : (o : ListOutcome) → p ≤ s.events → o ≡ list_in s p fresh behind → o ≡ shown_from (interval s p) fresh behind
+  -- the listing of interval p from a place not begun, into what is left of the output
+  pub listed_here : (o : ListOutcome) → p ≤ s.events → o ≡ list_in s p fresh (take (length out - 8 * w) (drop (8 * w) out)) → o ≡ shown_from (interval s p) fresh behind
   listed_here o within told =
-      told
-      ∙ ap (λ (b : Bool). cond b (refused_listing 9 fresh behind) (cond (ltb (length behind) 8) (refused_listing 14 fresh behind) here)) (le-ltb s.events p within)
-      ∙ ap (λ (b : Bool). cond b (refused_listing 14 fresh behind) here) (le-ltb (length behind) 8 (omega (arith, behind_long, u.fits)))
-    where
-      here : ListOutcome
-      here = shown_from (interval s p) fresh behind
+      told ∙ ap (list_in s p fresh) part_is
+      ∙ simp (le-ltb s.events p within, le-ltb (length behind) 8 (omega (arith, behind_long, u.fits)))
 
-  module _ (last : ℕ) (some : (q : ℕ) → q ≤ s.events → 1 ≤ length (interval s q)) (upto : p ≤ last) (within : last ≤ s.events) (r : Listed) (part : List ℕ) (told : listed r part ≡ shown_from (interval s p) fresh behind) where
+  pub never_refused : (why : Refusal) (part : List ℕ) → p ≤ s.events → listed fresh (Err why) part ≡ list_in s p fresh (take (length out - 8 * w) (drop (8 * w) out)) → ⊥
+  never_refused why part within told = omega (arith, number_positive why, ap (λ (o : ListOutcome). o.refusal) (listed_here _ within told))
+
+  module _ {last : ℕ} {r : Listed} {part : List ℕ} (here : Here s p w last out₀ r part) where
     abbrev all : List (List ℕ)
     all = joined s first (suc (last - first))
 
     counted : r.written ≡ length shown
-    counted = ap (λ (o : ListOutcome). o.count) told
+    counted = ap (λ (o : ListOutcome). o.count) here.told
 
     some_shown : 1 ≤ length shown
-    some_shown = omega (arith, length-take (room behind) (interval s p), some p (omega arith), behind_long, u.fits)
+    some_shown = omega (arith, length-take (room behind) (interval s p), here.some p (omega (arith, here.upto, here.within)), behind_long, u.fits)
 
     together : length (before ++ shown) ≡ w + r.written
     together = length-append before shown ∙ omega (arith, u.count, counted)
@@ -181,7 +195,7 @@ module _ (s : Store) (first p w : ℕ) (out₀ out : List ℕ) (u : UpTo s first
     bytes : flat before ++ part ≡ written (before ++ shown) out₀
     bytes =
         let sum : 8 * w + 8 * length shown ≡ 8 * length (before ++ shown) = omega (arith, together, counted) in
-        ap (λ (l : List ℕ). flat before ++ l) (ap (λ (o : ListOutcome). o.output) told)
+        ap (λ (l : List ℕ). flat before ++ l) (ap (λ (o : ListOutcome). o.output) here.told)
         ∙ sym (append_assoc (flat before) (flat shown) (drop (8 * length shown) behind))
         ∙ ap₂ ◌++◌ (sym (flat_append before shown)) (drop-drop (8 * length shown) (8 * w) out₀ ∙ ap (λ (m : ℕ). drop m out₀) sum)
 
@@ -189,15 +203,15 @@ module _ (s : Store) (first p w : ℕ) (out₀ out : List ℕ) (u : UpTo s first
     fits_on = omega (arith, counted, length-take (room behind) (interval s p), behind_long, u.fits)
 
     -- it stops here: what was written is what fits of all, and more is said where something is left
-    stops : (answer : Listing) → listing_number answer ≡ 0 → listing_said answer ≡ cond (ltb (room out₀) (length all)) more done → take (room out₀) all ≡ before ++ shown → gathered (record { answer = answer; written = w + r.written; position = record { 0 = p }; place = r.place }) (flat before ++ part) ≡ gathered_from s first (last - first) out₀
-    stops answer number says fit =
+    stops : (later : Bool) → cond later more done ≡ cond (ltb (room out₀) (length all)) more done → take (room out₀) all ≡ before ++ shown → gathered (Ok (record { written = w + r.written; more = later; position = record { 0 = p }; place = r.place })) (flat before ++ part) ≡ gathered_from s first (last - first) out₀
+    stops later says fit =
         let count : w + r.written ≡ length (take (room out₀) all) = sym (ap length fit ∙ together) in
-        let place : r.place ≡ behind_all fresh (take (room out₀) all) = ap (λ (o : ListOutcome). o.place) told ∙ sym (ap (behind_all fresh) fit ∙ behind_append fresh fresh before shown some_shown) in
+        let place : r.place ≡ behind_all fresh (take (room out₀) all) = ap (λ (o : ListOutcome). o.place) here.told ∙ sym (ap (behind_all fresh) fit ∙ behind_append fresh fresh before shown some_shown) in
         let found : stands_in s first (last - first) (length (take (room out₀) all)) ≡ first + (p - first) = stands_in_lem s first (last - first) (p - first) (length (take (room out₀) all)) (omega arith) (omega (arith, count, u.count, counted, some_shown)) (omega (arith, count, u.count, counted, length-take (room behind) (interval s p), ap length next, length-append before (interval s p))) in
         let position : p ≡ stands_in s first (last - first) (length (take (room out₀) all)) = omega (arith, found, u.from) in
         λ i. record {
           listing = record {
-            refusal = number i;
+            refusal = 0;
             said = says i;
             count = count i;
             place = place i;
@@ -207,22 +221,22 @@ module _ (s : Store) (first p w : ℕ) (out₀ out : List ℕ) (u : UpTo s first
         }
 
     -- the last interval: what the listing says is said
-    pub stops_last : p ≡ last → gathered (record { answer = r.answer; written = w + r.written; position = record { 0 = p }; place = r.place }) (flat before ++ part) ≡ gathered_from s first (last - first) out₀
+    pub stops_last : p ≡ last → gathered (Ok (record { written = w + r.written; more = r.more; position = record { 0 = p }; place = r.place })) (flat before ++ part) ≡ gathered_from s first (last - first) out₀
     stops_last e =
         let same : last - first ≡ p - first = omega arith in
         let whole : all ≡ before ++ interval s p = ap (λ (m : ℕ). joined s first (suc m)) same ∙ next in
         let left : ltb (room behind) (length (interval s p)) ≡ ltb (room out₀) (length all) = sooner (room behind) (length (interval s p)) (room out₀) (length all) (length before) rooms (ap length whole ∙ length-append before (interval s p)) in
-        stops r.answer (ap (λ (o : ListOutcome). o.refusal) told)
-        (ap (λ (o : ListOutcome). o.said) told ∙ ap (λ (b : Bool). cond b more done) left)
+        stops r.more
+        (ap (λ (o : ListOutcome). o.said) here.told ∙ ap (λ (b : Bool). cond b more done) left)
         (ap (take (room out₀)) whole ∙ fitting)
 
     -- no room for another cut, and an interval is left: there is more
-    pub stops_full : p < last → length out₀ - 8 * (w + r.written) < 8 → gathered (record { answer = More; written = w + r.written; position = record { 0 = p }; place = r.place }) (flat before ++ part) ≡ gathered_from s first (last - first) out₀
+    pub stops_full : p < last → length out₀ - 8 * (w + r.written) < 8 → gathered (Ok (record { written = w + r.written; more = true; position = record { 0 = p }; place = r.place })) (flat before ++ part) ≡ gathered_from s first (last - first) out₀
     stops_full less full =
         let full-here : room out₀ ≤ length (before ++ interval s p) = omega (arith, rooms, counted, u.count, length-take (room behind) (interval s p), behind_long, u.fits, length-append before (interval s p)) in
-        let longer : length (before ++ interval s p) < length all = omega (arith, ap length next, joined_more s first some (suc (p - first)) (suc (last - first)) (omega (arith, u.from)) (omega (arith, u.from))) in
+        let longer : length (before ++ interval s p) < length all = omega (arith, ap length next, joined_more s first here.some (suc (p - first)) (suc (last - first)) (omega (arith, u.from)) (omega (arith, u.from))) in
         let whole : all ≡ (before ++ interval s p) ++ added s first (suc (p - first)) (suc (last - first) - suc (p - first)) = joined_split s first (suc (p - first)) (suc (last - first)) (omega arith) ∙ ap (λ (l : List (List ℕ)). l ++ added s first (suc (p - first)) (suc (last - first) - suc (p - first))) next in
-        stops More refl
+        stops true
         (sym (ap (λ (b : Bool). cond b more done) (lt-ltb (room out₀) (length all) (omega (arith, full-here, longer)))))
         (ap (take (room out₀)) whole ∙ take-append-le (room out₀) (before ++ interval s p) _ full-here ∙ fitting)
 

@@ -1,23 +1,28 @@
 -- Rule 31, gathering: interval after interval, each listed behind the cuts already written.
-use Rattle.std.specs.Prelude.{ℕ, zero, suc, ◌+◌, ◌-◌, ◌≤◌, cond, List, [], ◌++◌, ltb, eqb, length, take}
-use Rattle.model.specs.declared.Record.{Record}
+use Rattle.std.specs.Prelude.{ℕ, zero, suc, ◌+◌, ◌-◌, ◌≤◌, cond, List, [], ◌++◌, Result, Ok, Err, ltb, eqb, length, take}
+use Rattle.model.specs.declared.Refusal.{Refusal}
+use Rattle.model.specs.Refusals.{number_of}
 use Rattle.model.specs.Store.{Store, store_refusal}
 use Rattle.model.specs.Cuts.{interval}
 use Rattle.cuts.specs.declared.Gathered.{Gathered}
-use Rattle.cuts.specs.Outcomes.{SoundTrace}
-use Rattle.cuts.specs.Listing.{room, ListOutcome, listing_number, listing_said, refused_listing, shown_from, fresh}
+use Rattle.cuts.specs.Listing.{room, done, more, ListOutcome, refused_listing, shown_from, fresh}
 
 -- what a listing says, and the position of the interval where it stopped
 pub record GatherOutcome : Type 0 where
   pub listing : ListOutcome
   pub position : ℕ
 
-abbrev pub gathered : Gathered → List ℕ → GatherOutcome
-gathered r output =
+-- rule 51, a refusal: nothing is said or written, counts are 0, the position too, and the place is not begun
+abbrev pub refused_gathering : ℕ → List ℕ → GatherOutcome
+refused_gathering number out = record { listing = refused_listing number fresh out; position = 0 }
+
+abbrev pub gathered : Result Gathered Refusal → List ℕ → GatherOutcome
+gathered (Ok r) output =
     record {
-      listing = record { refusal = listing_number r.answer; said = listing_said r.answer; count = r.written; place = r.place; output = output };
+      listing = record { refusal = 0; said = cond r.more more done; count = r.written; place = r.place; output = output };
       position = r.position.0;
     }
+gathered (Err why) output = refused_gathering (number_of why) output
 
 -- rule 31: the cuts of k intervals from the first on, one interval behind the other
 abbrev pub joined : Store → ℕ → ℕ → List (List ℕ)
@@ -33,15 +38,11 @@ stands_in s first (suc k) w = cond (ltb (length (joined s first (suc k))) w) (fi
 -- rules 29 to 31: all cuts from the first position to the last, as many as fit, as one listing of them; where it stopped is the place behind
 -- the last cut written, in that cut's interval
 abbrev pub gathered_from : Store → ℕ → ℕ → List ℕ → GatherOutcome
-gathered_from s first more out =
+gathered_from s first k out =
     record {
-      listing = shown_from (joined s first (suc more)) fresh out;
-      position = stands_in s first more (length (take (room out) (joined s first (suc more))));
+      listing = shown_from (joined s first (suc k)) fresh out;
+      position = stands_in s first k (length (take (room out) (joined s first (suc k))));
     }
-
--- rule 51, a refusal: nothing is said or written, counts are 0, the position too, and the place is not begun
-abbrev pub refused_gathering : ℕ → List ℕ → GatherOutcome
-refused_gathering number out = record { listing = refused_listing number fresh out; position = 0 }
 
 -- rule 53, of a sound store: 9 for a last position above T or below the first, then 14
 abbrev pub gather_in : Store → ℕ → ℕ → List ℕ → GatherOutcome
@@ -55,9 +56,8 @@ abbrev pub gathering : Store → ℕ → ℕ → List ℕ → GatherOutcome
 gathering s first last out =
     cond (eqb (store_refusal s) 0) (gather_in s first last out) (refused_gathering (store_refusal s) out)
 
--- what the loop over the intervals may assume: a sound store, positions that 9 does not refuse, an output that 14 does not
-pub record GatherReady (r : Record) (clocks order : List ℕ) (first last : ℕ) (out : List ℕ) : Type 0 where
-  pub trace : SoundTrace r clocks order
+-- what the loop over the intervals may assume: positions that 9 does not refuse, an output that 14 does not
+pub record GatherReady (events first last : ℕ) (out : List ℕ) : Type 0 where
   pub rising : first ≤ last
-  pub within : last ≤ r.events
+  pub within : last ≤ events
   pub room_left : 8 ≤ length out

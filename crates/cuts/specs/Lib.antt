@@ -2,3 +2,4 @@
 pub mod Outcomes
 pub mod Listing
 pub mod Gathering
+pub mod Ranges

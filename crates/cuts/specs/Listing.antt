@@ -1,16 +1,15 @@
 -- Rules 28 to 30, listing.
-use Rattle.std.specs.Prelude.{◌≡◌, ℕ, Bool, false, cond, not, ◌&&◌, List, ltb, eqb, length, take}
+use Rattle.std.specs.Prelude.{ℕ, Bool, false, cond, not, ◌&&◌, List, Result, Ok, Err, ltb, eqb, length, take}
 use Rattle.model.specs.declared.Place.{Place}
+use Rattle.model.specs.declared.Refusal.{Refusal}
 use Rattle.model.specs.Lists.{zeros, keep}
 use Rattle.model.specs.Refusals.{number_of}
 use Rattle.model.specs.Clocks.{covered}
 use Rattle.model.specs.Store.{Store, clocks_of, store_refusal}
 use Rattle.model.specs.Cuts.{consistent, gmin, gbnd, interval}
 use Rattle.model.specs.Lexical.{lex_before}
+use Rattle.walks.specs.declared.showing.Listed.{Listed}
 pub use Rattle.walks.specs.Showing.{flat, room, written, behind_all}
-use Rattle.cuts.specs.declared.Listing.{Listing}
-use Rattle.cuts.specs.declared.Listing.TheVariants.{Done, More, Refused}
-use Rattle.cuts.specs.declared.Listed.{Listed}
 use Rattle.cuts.specs.declared.Moved.{Moved}
 
 -- what is said of a listing; with a refusal nothing is
@@ -25,41 +24,19 @@ pub record ListOutcome : Type 0 where
   pub place : Place
   pub output : List ℕ
 
-abbrev pub listing_number : Listing → ℕ
-listing_number Done = 0
-listing_number More = 0
-listing_number (Refused why) = number_of why
-
-abbrev pub listing_said : Listing → Said
-listing_said Done = done
-listing_said More = more
-listing_said (Refused why) = nothing
-
-abbrev pub listed : Listed → List ℕ → ListOutcome
-listed r output =
-    record { refusal = listing_number r.answer; said = listing_said r.answer; count = r.written; place = r.place; output = output }
-
--- the same where the place was lent: what it is at exit
-abbrev pub moved : Moved → Place → List ℕ → ListOutcome
-moved r place output =
-    record { refusal = listing_number r.answer; said = listing_said r.answer; count = r.written; place = place; output = output }
-
--- the answers by their parts
-pub record RefusedAs (number : ℕ) (place : Place) (r : Listed) : Type 0 where
-  pub number_is : listing_number r.answer ≡ number
-  pub said_is : listing_said r.answer ≡ nothing
-  pub count_is : r.written ≡ 0
-  pub place_is : r.place ≡ place
-
-pub record ListedAs (count : ℕ) (place : Place) (later : Bool) (r : Listed) : Type 0 where
-  pub number_is : listing_number r.answer ≡ 0
-  pub said_is : listing_said r.answer ≡ cond later more done
-  pub count_is : r.written ≡ count
-  pub place_is : r.place ≡ place
-
 -- rule 51: what a refusal leaves and gives
 abbrev pub refused_listing : ℕ → Place → List ℕ → ListOutcome
 refused_listing number place out = record { refusal = number; said = nothing; count = 0; place = place; output = out }
+
+-- the place by value: the one that is returned, and the one given where nothing is
+abbrev pub listed : Place → Result Listed Refusal → List ℕ → ListOutcome
+listed given (Ok r) output = record { refusal = 0; said = cond r.more more done; count = r.written; place = r.place; output = output }
+listed given (Err why) output = refused_listing (number_of why) given output
+
+-- the same where the place was lent: what it is at exit
+abbrev pub moved : Result Moved Refusal → Place → List ℕ → ListOutcome
+moved (Ok r) place output = record { refusal = 0; said = cond r.more more done; count = r.written; place = place; output = output }
+moved (Err why) place output = refused_listing (number_of why) place output
 
 -- rules 29 and 30: the outcome where some cuts are still to be listed
 abbrev pub shown_from : List (List ℕ) → Place → List ℕ → ListOutcome
@@ -79,7 +56,6 @@ list_of cuts inside place out =
     (cond (not inside) (refused_listing 10 place out) (shown_from (keep (lex_before place.cut.counts) cuts) place out))
     (shown_from cuts place out)
 
--- rule 52, 10: the test of a begun place's cut
 -- rule 52, 10: the test of a begun place's cut
 abbrev pub in_interval : Store → ℕ → List ℕ → Bool
 in_interval s p G = covered (gmin s p) G && consistent (clocks_of s) (gbnd s p) G

@@ -1,25 +1,20 @@
 -- What the public calls answer: for each call one definition of its whole outcome.
-use Rattle.std.specs.Prelude.{◌≡◌, ℕ, ◌≤◌, Bool, true, false, cond, not, List, leb, ltb, eqb, length}
+use Rattle.std.specs.Prelude.{◌≡◌, ℕ, ◌≤◌, Bool, true, false, cond, not, List, Option, is_some, Result, Ok, Err, leb, ltb, eqb, length}
 use Rattle.model.specs.declared.Record.{Record}
+use Rattle.model.specs.declared.Cut.{Cut}
+use Rattle.model.specs.declared.Refusal.{Refusal}
 use Rattle.model.specs.declared.Range.{Range}
 use Rattle.model.specs.declared.Range.TheVariants.{Interval, Whole}
-use Rattle.model.specs.declared.Position.{Position}
 use Rattle.model.specs.declared.Job.{Job}
 use Rattle.model.specs.Lists.{zeros}
-use Rattle.model.specs.Refusals.{number_of, verdict_number}
+use Rattle.model.specs.Refusals.{number_of}
 use Rattle.model.specs.Store.{Store, store_of, store_refusal}
-use Rattle.model.specs.Clocks.{clock_at}
 use Rattle.model.specs.Follow.{tallies}
-use Rattle.model.specs.Cuts.{cuts_between, interval, cuts_in}
+use Rattle.model.specs.Cuts.{interval}
 use Rattle.model.specs.Questions.{answer}
-use Rattle.steps.specs.Walk.{Span}
-use Rattle.steps.specs.Spans.{IntervalSpan}
 pub use Rattle.questions.specs.Holdings.{question_fits}
 pub use Rattle.walks.specs.Counting.{fits64}
-use Rattle.cuts.specs.declared.Counted.{Counted}
-use Rattle.cuts.specs.declared.Answer.{Answer}
-use Rattle.cuts.specs.declared.Answer.TheVariants.{Found, NoCut, Refused}
-use Rattle.cuts.specs.declared.Asked.{Asked}
+pub use Rattle.walks.specs.Finding.{cut_found}
 
 -- a record with clocks and order that make a sound store with some held values, which the cuts do not depend on
 pub record SoundTrace (r : Record) (clocks order : List ℕ) : Type 0 where
@@ -36,8 +31,9 @@ pub record CountOutcome : Type 0 where
   pub refusal : ℕ
   pub count : ℕ
 
-abbrev pub counted : Counted → CountOutcome
-counted c = record { refusal = verdict_number c.verdict; count = c.count }
+abbrev pub counted : Result ℕ Refusal → CountOutcome
+counted (Ok count) = record { refusal = 0; count = count }
+counted (Err why) = record { refusal = number_of why; count = 0 }
 
 -- rules 32 and 53, of a sound store: 9, 11
 abbrev pub count_in : Store → ℕ → CountOutcome
@@ -56,38 +52,18 @@ pub record AskOutcome : Type 0 where
   pub found : Bool
   pub cut : List ℕ
 
-abbrev pub answer_number : Answer → ℕ
-answer_number Found = 0
-answer_number NoCut = 0
-answer_number (Refused why) = number_of why
-
-abbrev pub answer_found : Answer → Bool
-answer_found Found = true
-answer_found NoCut = false
-answer_found (Refused why) = false
-
-abbrev pub asked : Asked → AskOutcome
-asked a = record { refusal = answer_number a.answer; found = answer_found a.answer; cut = a.cut.counts }
-
 -- rule 51: a refusal finds no cut and gives zeros
 abbrev pub refused_asking : ℕ → AskOutcome
 refused_asking number = record { refusal = number; found = false; cut = zeros }
+
+abbrev pub asked : Result (Option Cut) Refusal → AskOutcome
+asked (Ok found) = record { refusal = 0; found = is_some found; cut = cut_found found }
+asked (Err why) = refused_asking (number_of why)
 
 -- rule 52, 9
 abbrev pub range_known : Store → Range → Bool
 range_known s (Interval p) = leb p.0 s.events
 range_known s Whole = true
-
--- what is read of the range of a sound store: whether it is known, and where it is, its bounds
-pub record RangeRead (r : Record) (clocks order : List ℕ) (range : Range) (known : Bool) (low high : List ℕ) : Type 0 where
-  pub known_is : (held : List ℕ) → known ≡ range_known (store_of r clocks held order) range
-  pub span : known ≡ true → Span r.tablets clocks low high
-  pub cuts : known ≡ true → (held : List ℕ) → cuts_between (clock_at clocks) low high ≡ cuts_in (store_of r clocks held order) range
-
--- the same of the interval of a position, with its bounds by name, Gmin and Gbnd: a listing tests its place's cut by them
-pub record IntervalRead (r : Record) (clocks order : List ℕ) (position : Position) (known : Bool) (low high : List ℕ) : Type 0 where
-  pub read : RangeRead r clocks order (Interval position) known low high
-  pub bounds : known ≡ true → IntervalSpan clocks order position.0 low high
 
 -- rules 36 and 53, of a sound store: 9, 13
 abbrev pub ask_in : Store → Job → AskOutcome

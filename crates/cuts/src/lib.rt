@@ -7,136 +7,92 @@ mod gatherer;
 pub mod inner;
 mod lister;
 mod ranges;
+mod sound;
 
 ghost use Rattle.std.specs.Prelude.{◌≡◌};
-ghost use Rattle.model.specs.Store.{store_of};
+ghost use Rattle.store.specs.Outcomes.{store_in};
 ghost use Rattle.cuts.specs.Listing.{listed, listing, moved};
 ghost use Rattle.cuts.specs.Gathering.{gathered, gathering};
 ghost use Rattle.cuts.specs.Outcomes.{counted, counting, asked, asking};
+ghost use Rattle.cuts.specs.Ranges.{Tested};
 
-use gatherer::{gather_intervals, refused_gathering};
-use inner::{answer_job, count_interval, refused_asking};
-use lister::{list_interval, refused_listing};
-use model::{Cut, Job, Place, Position, Record, Refusal, Verdict};
+use gatherer::gather_intervals;
+use inner::{answer_job, count_interval};
+use lister::list_interval;
+use model::{Cut, Job, Place, Position, Refusal};
+use sound::Sound;
+use store::Trace;
+pub use walks::showing::Listed;
 
-// The number of cuts, or a refusal with 0.
-#[derive(Clone, Copy)]
-pub struct Counted {
-    pub verdict: Verdict,
-    pub count: u64,
-}
-
-pub fn count(
-    record: Record,
-    clocks: &[u8],
-    held: &[u16],
-    order: &[u8],
-    position: Position,
-) -> Counted
-    ensures { counted result ≡ counting (store_of «record» clocks.now held.now order.now) position.0 }
+// The test of a stored trace, and what of it the calls on cuts read once it has passed.
+fn tested(trace: Trace) -> Result<Sound, Refusal>
+    ensures { Tested trace.entry result }
 {
-    let v = store::check(record, clocks, held, order);
-    match v {
-        Verdict::Refused(_) => Counted {
-            verdict: v,
-            count: 0,
-        },
-        Verdict::Passed => count_interval(record, clocks, order, position),
-    }
+    store::check(trace)?;
+    Ok(Sound {
+        record: trace.record,
+        clocks: trace.clocks,
+        order: trace.order,
+    })
 }
 
-// What asking answers: a cut was found, or there is none, or it was refused.
-#[derive(Clone, Copy)]
-pub enum Answer {
-    Found,
-    NoCut,
-    Refused(Refusal),
-}
-
-#[derive(Clone, Copy)]
-pub struct Asked {
-    pub answer: Answer,
-    pub cut: Cut,
-}
-
-pub fn ask(record: Record, clocks: &[u8], held: &[u16], order: &[u8], job: Job) -> Asked
-    ensures { asked result ≡ asking (store_of «record» clocks.now held.now order.now) job }
+// The number of cuts of an interval.
+pub fn count(trace: Trace, position: Position) -> Result<u64, Refusal>
+    ensures { counted result ≡ counting (store_in trace.entry) position.0 }
 {
-    let v = store::check(record, clocks, held, order);
-    match v {
-        Verdict::Refused(why) => refused_asking(why),
-        Verdict::Passed => answer_job(record, clocks, held, order, job),
-    }
+    count_interval(tested(trace)?, position)
 }
 
-// What a listing says: the interval has no later cut, or more, or it was refused.
-#[derive(Clone, Copy)]
-pub enum Listing {
-    Done,
-    More,
-    Refused(Refusal),
-}
-
-#[derive(Clone, Copy)]
-pub struct Listed {
-    pub answer: Listing,
-    pub written: usize,
-    pub place: Place,
+// The first cut of a job's range that meets its question, where there is one.
+pub fn ask(trace: Trace, job: Job) -> Result<Option<Cut>, Refusal>
+    ensures { asked result ≡ asking (store_in trace.entry) job }
+{
+    store::check(trace)?;
+    answer_job(trace, job)
 }
 
 // Writes the cuts of an interval that stand behind a place, as many as fit.
 pub fn list(
-    record: Record,
-    clocks: &[u8],
-    held: &[u16],
-    order: &[u8],
+    trace: Trace,
     position: Position,
     place: Place,
     out: &mut [u8],
-) -> Listed
-    ensures { listed result out.new ≡ listing (store_of «record» clocks.now held.now order.now) position.0 place out.old }
+) -> Result<Listed, Refusal>
+    ensures { listed place result out.new ≡ listing (store_in trace.entry) position.0 place out.old }
 {
-    let v = store::check(record, clocks, held, order);
-    match v {
-        Verdict::Refused(why) => refused_listing(why, place),
-        Verdict::Passed => list_interval(record, clocks, order, position, place, out),
-    }
+    list_interval(tested(trace)?, position, place, out)
 }
 
 // What a listing answers where its place was lent.
 #[derive(Clone, Copy)]
 pub struct Moved {
-    pub answer: Listing,
     pub written: usize,
+    pub more: bool,
 }
 
 // The same through a lent place, which the call moves on. A caller that keeps its place in a local uses the call above, by value.
 pub fn list_moving(
-    record: Record,
-    clocks: &[u8],
-    held: &[u16],
-    order: &[u8],
+    trace: Trace,
     position: Position,
     place: &mut Place,
     out: &mut [u8],
-) -> Moved
-    ensures { moved result place.new out.new ≡ listing (store_of «record» clocks.now held.now order.now) position.0 place.old out.old }
+) -> Result<Moved, Refusal>
+    ensures { moved result place.new out.new ≡ listing (store_in trace.entry) position.0 place.old out.old }
 {
-    let from = *place;
-    let listed = list(record, clocks, held, order, position, from, out);
+    let listed = list(trace, position, *place, out)?;
     *place = listed.place;
-    Moved {
-        answer: listed.answer,
+    Ok(Moved {
         written: listed.written,
-    }
+        more: listed.more,
+    })
 }
 
-// What a gathering answers: whether all cuts of the intervals are there, how many are, and where it stopped: the interval of
-// the last cut written and the place behind that cut, from which `list` goes on.
+// What a gathering answers: how many cuts are there, whether more are left, and where it stopped: the interval of the last cut
+// written and the place behind that cut, from which `list` goes on.
 #[derive(Clone, Copy)]
 pub struct Gathered {
-    pub answer: Listing,
     pub written: usize,
+    pub more: bool,
     pub position: Position,
     pub place: Place,
 }
@@ -144,19 +100,12 @@ pub struct Gathered {
 // The cuts of interval after interval, from a first position to a last, all that fit. Each interval is listed into the part of
 // the output behind the cuts already written.
 pub fn gather(
-    record: Record,
-    clocks: &[u8],
-    held: &[u16],
-    order: &[u8],
+    trace: Trace,
     first: Position,
     last: Position,
     out: &mut [u8],
-) -> Gathered
-    ensures { gathered result out.new ≡ gathering (store_of «record» clocks.now held.now order.now) first.0 last.0 out.old }
+) -> Result<Gathered, Refusal>
+    ensures { gathered result out.new ≡ gathering (store_in trace.entry) first.0 last.0 out.old }
 {
-    let v = store::check(record, clocks, held, order);
-    match v {
-        Verdict::Refused(why) => refused_gathering(why),
-        Verdict::Passed => gather_intervals(record, clocks, order, first, last, out),
-    }
+    gather_intervals(tested(trace)?, first, last, out)
 }

@@ -1,57 +1,66 @@
-// The range that a question is put to, and the interval that is listed: whether it is known, and its bounds.
-ghost use Rattle.std.specs.Prelude.{◌≡◌, false};
-ghost use Rattle.cuts.specs.Outcomes.{SoundTrace, RangeRead, IntervalRead};
+// The range that a question is put to, and the interval that is listed: a walk over its cuts, where it is known.
+ghost use Rattle.std.specs.Prelude.{◌≡◌};
+ghost use Rattle.cuts.specs.Outcomes.{TalliedAt};
+ghost use Rattle.cuts.specs.Ranges.{IntervalWalk, IntervalRead, RangeRead};
 
-use model::{Cut, Position, Range, Record};
-use steps::spans::{Span, interval_span, tallies_after, trace_span};
+use crate::sound::Sound;
+use model::{Position, Range};
+use steps::spans::{interval_span, tallies_after, trace_span};
+use steps::walk::Walk;
+use store::inner::Clocks;
 
-// Not known where its position is above T.
-#[derive(Clone, Copy)]
-pub(crate) struct Ranged {
-    pub known: bool,
-    pub span: Span,
-}
+impl<'a> Sound<'a> {
+    // The clocks, which a sound trace has whole.
+    #[tactic(auto, using(crate::proofs::Traces::clocks_full))]
+    fn lent_clocks(self) -> Clocks<'a>
+        ensures { result.bytes.now ≡ self.entry.clocks.now }
+    {
+        Clocks { bytes: self.clocks }
+    }
 
-pub(crate) fn range_span(record: Record, clocks: &[u8], order: &[u8], range: Range) -> Ranged
-    requires { SoundTrace «record» clocks.now order.now }
-    ensures { RangeRead «record» clocks.now order.now range result.known result.span.low.counts result.span.high.counts }
-{
-    match range {
-        Range::Interval(position) => interval_range(record, clocks, order, position),
-        Range::Whole => {
-            let span = trace_span(order, record.events);
-            Ranged { known: true, span }
+    // The interval of a position, from its Gmin to the tallies after it, which the caller has at hand.
+    #[tactic(auto, using(crate::proofs::Traces::countable_to))]
+    pub(crate) fn interval_to(self, position: Position, tallies: [u8; 8]) -> Walk<'a>
+        requires { TalliedAt self.record self.order.now position.0 tallies }
+        ensures { IntervalWalk self.entry position.0 result }
+    {
+        let clocks = self.lent_clocks();
+        let span = interval_span(clocks, self.order, position, tallies);
+        Walk {
+            tablets: self.record.tablets,
+            clocks,
+            low: span.low,
+            high: span.high,
         }
     }
-}
 
-// The interval of a position up to T, from its Gmin to the tallies after it.
-pub(crate) fn interval_range(
-    record: Record,
-    clocks: &[u8],
-    order: &[u8],
-    position: Position,
-) -> Ranged
-    requires { SoundTrace «record» clocks.now order.now }
-    ensures { IntervalRead «record» clocks.now order.now position result.known result.span.low.counts result.span.high.counts }
-{
-    let last = record.events;
-    if last < position.0 {
-        return unknown_range();
+    // The interval of a position up to T.
+    #[tactic(auto, using(crate::proofs::Traces::countable_to))]
+    pub(crate) fn interval(self, position: Position) -> Option<Walk<'a>>
+        ensures { IntervalRead self.entry position.0 result }
+    {
+        if self.record.events < position.0 {
+            return None;
+        }
+        let tallies = tallies_after(self.order, position);
+        Some(self.interval_to(position, tallies))
     }
-    let counts = tallies_after(order, position);
-    let span = interval_span(clocks, order, position, counts);
-    Ranged { known: true, span }
-}
 
-fn unknown_range() -> Ranged
-    ensures { result.known ≡ false }
-{
-    Ranged {
-        known: false,
-        span: Span {
-            low: Cut { counts: [0u8; 8] },
-            high: Cut { counts: [0u8; 8] },
-        },
+    #[tactic(auto, using(crate::proofs::Traces::countable_to, crate::proofs::Traces::range_interval, crate::proofs::Traces::range_whole))]
+    pub(crate) fn range(self, range: Range) -> Option<Walk<'a>>
+        ensures { RangeRead self.entry range result }
+    {
+        match range {
+            Range::Interval(position) => self.interval(position),
+            Range::Whole => {
+                let span = trace_span(self.order, self.record.events);
+                Some(Walk {
+                    tablets: self.record.tablets,
+                    clocks: self.lent_clocks(),
+                    low: span.low,
+                    high: span.high,
+                })
+            }
+        }
     }
 }

@@ -1,7 +1,7 @@
 -- Gathering every interval: the joined intervals are the consistent cuts, each once; and the counts of the calls add up.
 use mathlib.Core.Path.{◌≡◌, refl, sym, ap, ◌∙◌, subst}
 use mathlib.Core.Logic.{◌↔◌, ⊎_elim, by_cases}
-use mathlib.Core.Bool.{Bool, true, false, cond}
+use mathlib.Core.Bool.{Bool, true, false, cond, false≢true}
 use mathlib.Core.List.Memᴰ
 use mathlib.Core.List.{List, [], ◌∷◌, ◌++◌, Memᴰ}
 use Prim.Native.Nat.{ℕ, zero, suc, ◌+◌, ◌-◌, ◌≤◌, ◌<◌}
@@ -9,9 +9,10 @@ use native.Mathlib.Omega.{arith}
 use native.Mathlib.Decide.{ℕ_discrete}
 use borrow.Author.Tests.{le-ltb}
 use lib.ListN.{length, length-append}
-use Rattle.model.specs.declared.Verdict.TheVariants.{Passed}
+use Rattle.std.specs.Prelude.{Result, Ok, Err, is_ok}
+use Rattle.std.specs.Result.{result_unwrap_or}
+use Rattle.model.specs.declared.Refusal.{Refusal}
 use Rattle.model.specs.Lists.{sum_below}
-use Rattle.model.specs.Refusals.{verdict_number}
 use Rattle.model.specs.Store.{Store, clocks_of, tallies_of, store_refusal}
 use Rattle.model.specs.Cuts.{interval, all_cuts, total}
 use Rattle.model.proofs.Sound.{Sound}
@@ -21,7 +22,6 @@ use Rattle.model.proofs.Intervals.{interval_literal}
 use Rattle.model.proofs.Partition.{cut_into, counts_add_up, in_one_interval}
 use Rattle.store.proofs.Outcomes.{when_zero}
 use Rattle.walks.specs.Counting.{fits64}
-use Rattle.cuts.specs.declared.Counted.{Counted}
 use Rattle.cuts.specs.Outcomes.{CountOutcome, counted, count_in, counting}
 use Rattle.cuts.specs.Gathering.{joined, gathered_from, refused_gathering, gather_in, gathering}
 use Rattle.cuts.proofs.Members.{interval_long}
@@ -117,9 +117,15 @@ module _ (s : Store) (none : store_refusal s ≡ 0) where
       by_test true e = refl
       by_test false e = let z : ⊥ = omega (arith, e) in absurd z
 
-  pub sums : (c : ℕ → Counted) → ((p : ℕ) → p ≤ s.events → counted (c p) ≡ counting s p) → ((p : ℕ) → p ≤ s.events → (c p).verdict ≡ Passed) → (k : ℕ) → k ≤ suc s.events → sum_below k (λ p. (c p).count) ≡ sum_below k (λ p. length (interval s p))
+  -- of an answer that is Ok, what it gives
+  given : (r : Result ℕ Refusal) → is_ok r ≡ true → ((counted r).refusal ≡ 0) × ((counted r).count ≡ result_unwrap_or r 0)
+  given (Ok n) e = (refl, refl)
+  given (Err why) e = absurd (false≢true e)
+
+  pub sums : (c : ℕ → Result ℕ Refusal) → ((p : ℕ) → p ≤ s.events → counted (c p) ≡ counting s p) → ((p : ℕ) → p ≤ s.events → is_ok (c p) ≡ true) → (k : ℕ) → k ≤ suc s.events → sum_below k (λ p. result_unwrap_or (c p) 0) ≡ sum_below k (λ p. length (interval s p))
   sums c told passed zero h = refl
   sums c told passed (suc k) h =
       let here = told k (omega arith) in
-      let zero-here : (counting s k).refusal ≡ 0 = sym (ap (λ (o : CountOutcome). o.refusal) here) ∙ ap verdict_number (passed k (omega arith)) in
-      omega (arith, sums c told passed k (omega arith), ap (λ (o : CountOutcome). o.count) here, count_is k (omega arith) zero-here)
+      let is = given (c k) (passed k (omega arith)) in
+      let zero-here : (counting s k).refusal ≡ 0 = sym (ap (λ (o : CountOutcome). o.refusal) here) ∙ is.0 in
+      omega (arith, sums c told passed k (omega arith), ap (λ (o : CountOutcome). o.count) here, is.1, count_is k (omega arith) zero-here)

@@ -11,14 +11,15 @@ use borrow.Author.Tests.{le-ltb, ltb-false}
 use lib.Dec.{T, ltb}
 use lib.ListN.{length, take, drop}
 use lib.Seq.{take_all}
-use Rattle.model.specs.declared.Verdict.TheVariants.{Passed}
+use Rattle.std.specs.Prelude.{Result, is_ok}
+use Rattle.std.specs.Result.{result_unwrap_or}
+use Rattle.model.specs.declared.Refusal.{Refusal}
 use Rattle.model.specs.declared.Place.{Place}
 use Rattle.model.specs.Lists.{sum_below}
 use Rattle.model.specs.Store.{Store, store_refusal}
 use Rattle.model.specs.Cuts.{interval, all_cuts, total}
 use Rattle.model.proofs.Partition.{counts_add_up}
 use Rattle.store.proofs.Ready.{tested_sound}
-use Rattle.cuts.specs.declared.Counted.{Counted}
 use Rattle.cuts.specs.Outcomes.{counted, counting}
 use Rattle.cuts.specs.Listing.{flat, room, written, Said, done, more, nothing, ListOutcome, in_interval, listing}
 use Rattle.cuts.specs.Gathering.{GatherOutcome, joined, gathered_from, gathering}
@@ -31,7 +32,7 @@ pub use Rattle.demands.proofs.Prefix.{count_same, list_same, ask_same, gather_sa
 
 -- Rule 25, of the calls: where no `count` of 0 to T refuses, the counts that the calls give add up to the number of
 -- consistent cuts found by testing every vector up to the tallies.
-pub counts_of_calls : (s : Store) → store_refusal s ≡ 0 → (c : ℕ → Counted) → ((p : ℕ) → p ≤ s.events → counted (c p) ≡ counting s p) → ((p : ℕ) → p ≤ s.events → (c p).verdict ≡ Passed) → sum_below (suc s.events) (λ p. (c p).count) ≡ length (all_cuts s)
+pub counts_of_calls : (s : Store) → store_refusal s ≡ 0 → (c : ℕ → Result ℕ Refusal) → ((p : ℕ) → p ≤ s.events → counted (c p) ≡ counting s p) → ((p : ℕ) → p ≤ s.events → is_ok (c p) ≡ true) → sum_below (suc s.events) (λ p. result_unwrap_or (c p) 0) ≡ length (all_cuts s)
 unfolding total
 counts_of_calls s none c told passed =
     sums s none c told passed (suc s.events) (omega arith) ∙ counts_add_up s (tested_sound s none)

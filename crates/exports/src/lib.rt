@@ -1,20 +1,34 @@
 // Counting, listing and the whole report for programs in other languages: calls of `cuts` and `report` under names and with
-// parameters that C and Rust can declare.
+// parameters that C and Rust can declare, so numbers and buffers one by one, and 0 for a refusal.
 #![tactic(auto)]
 
 ghost use Rattle.std.specs.Prelude.{◌≡◌};
+ghost use Rattle.store.specs.Outcomes.{store_in};
 ghost use Rattle.cuts.specs.Outcomes.{counting};
 ghost use Rattle.cuts.specs.Listing.{listing, fresh};
 ghost use Rattle.report.specs.Report.{reporting};
-ghost use Rattle.exports.specs.Calls.{record_from, store_from, sent, sent_of};
+ghost use Rattle.exports.specs.Calls.{store_from, sent, sent_of};
 
 use model::{Cut, Place, Position, Record};
+use store::{Buffers, Trace};
 
-// What a caller gives beside the buffers, as a record. The calls below test it.
-fn record_from(tablets: u8, events: u16) -> Record
-    ensures { result ≡ record_from tablets events }
+// What a caller lends, as a trace. The calls below test it.
+fn trace_from<'a>(
+    tablets: u8,
+    events: u16,
+    clocks: &'a [u8],
+    held: &'a [u16],
+    order: &'a [u8],
+) -> Trace<'a>
+    ensures { store_in result ≡ store_from tablets events clocks.now held.now order.now }
 {
-    Record { tablets, events }
+    let record = Record { tablets, events };
+    Trace {
+        record,
+        clocks,
+        held,
+        order,
+    }
 }
 
 // How many cuts an interval has; 0 on a refusal.
@@ -29,9 +43,8 @@ pub extern "C" fn chongyeori_count(
 ) -> u64
     ensures { result ≡ (counting (store_from tablets events clocks.now held.now order.now) position).count }
 {
-    let record = record_from(tablets, events);
-    let counted = cuts::count(record, clocks, held, order, Position(position));
-    counted.count
+    let trace = trace_from(tablets, events, clocks, held, order);
+    cuts::count(trace, Position(position)).unwrap_or(0)
 }
 
 // Writes the first cuts of an interval, as many as fit, and gives their number, or 0 on a refusal.
@@ -48,13 +61,12 @@ pub extern "C" fn chongyeori_list(
     ensures value { result ≡ (listing (store_from tablets events clocks.now held.now order.now) position fresh out.old).count }
     ensures out_after { out.new ≡ (listing (store_from tablets events clocks.now held.now order.now) position fresh out.old).output }
 {
-    let record = record_from(tablets, events);
-    let place = Place {
+    let trace = trace_from(tablets, events, clocks, held, order);
+    let fresh = Place {
         begun: false,
-        cut: Cut { counts: [0u8; 8] },
+        cut: Cut { counts: [0; 8] },
     };
-    let listed = cuts::list(record, clocks, held, order, Position(position), place, out);
-    listed.written as u64
+    cuts::list(trace, Position(position), fresh, out).map_or(0, |listed| listed.written as u64)
 }
 
 // Puts what `cutcheck` prints to the front of an output, and gives how many bytes that is.
@@ -68,6 +80,10 @@ pub extern "C" fn chongyeori_report(
 ) -> usize
     ensures { sent result out.new clocks.new held.new order.new ≡ sent_of (reporting input.now clocks.old held.old order.old out.old) }
 {
-    let reported = report::make_report(input, clocks, held, order, out);
-    reported.length
+    let mut buffers = Buffers {
+        clocks,
+        held,
+        order,
+    };
+    report::make_report(input, &mut buffers, out).length
 }

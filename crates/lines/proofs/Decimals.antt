@@ -8,42 +8,44 @@ use native.Mathlib.Omega.{arith}
 use native.Mathlib.Decide.{dec_lt, dec_le}
 use borrow.Author.Tests.{lt-ltb, le-ltb, le-leb, lt-leb, eq-eqb, ne_eqb, leb-true, eqb-false, not-true}
 use lib.Dec.{leb, ltb, eqb}
-use lib.ListN.{length, get_or, length-append, get_or-append}
-use Rattle.lines.specs.declared.numbers.Number.TheVariants.{Value, Faulty}
+use native.Mathlib.Numerals.{add-one}
+use lib.ListN.{length, get_or, drop, length-append, get_or-append, drop_of_length-le}
+use lib.Seq.{drop-cons}
+use Rattle.std.specs.Prelude.{Some, None}
+use Rattle.std.proofs.lemmas.Option.{none-some, same_Some}
 use Rattle.lines.specs.Numbers.{decimal_from, decimal, plain, is_digit, all_digits, value_from, digits_from, number}
 
-cond_same : {A : Type 0} (b : Bool) (x : A) → cond b x x ≡ x
+pub cond_same : {A : Type 0} (b : Bool) (x : A) → cond b x x ≡ x
 cond_same true x = refl
 cond_same false x = refl
 
--- reading: one digit more, a byte that is none, and a sum that passed the limit
+-- reading: one digit more, a byte that is none, a sum that passed the limit, and the end
 
 pub grows : (sum : ℕ) (text : List ℕ) → sum ≤ value_from sum text
 grows sum [] = omega arith
 grows sum (b ∷ bs) = omega (arith, grows (10 * sum + (b - 48)) bs)
 
 module _ (limit sum : ℕ) where
-  pub step_digit : (b : ℕ) (bs : List ℕ) → 48 ≤ b → b ≤ 57 → digits_from limit sum (b ∷ bs) ≡ digits_from limit (10 * sum + (b - 48)) bs
-  unfolding digits_from
-  step_digit b bs low high = simp (le-leb 48 b low, le-leb b 57 high)
+  module _ (text : List ℕ) (i : ℕ) (h : i < length text) where
+    pub digit_on : is_digit (get_or text i 0) ≡ true → digits_from limit sum (drop i text) ≡ digits_from limit (10 * sum + (get_or text i 0 - 48)) (drop (i + 1) text)
+    unfolding digits_from
+    digit_on e = rw (add-one i, drop-cons text i 0 h) (simp e)
 
-  pub step_low : (b : ℕ) (bs : List ℕ) → b < 48 → digits_from limit sum (b ∷ bs) ≡ Faulty
-  unfolding digits_from
-  step_low b bs low = simp (lt-leb 48 b low)
+    pub digit_off : is_digit (get_or text i 0) ≡ false → digits_from limit sum (drop i text) ≡ None
+    unfolding digits_from
+    digit_off e = rw (drop-cons text i 0 h) (simp e)
 
-  pub step_high : (b : ℕ) (bs : List ℕ) → 57 < b → digits_from limit sum (b ∷ bs) ≡ Faulty
-  unfolding digits_from
-  step_high b bs high = simp (le-leb 48 b (omega arith), lt-leb b 57 high)
-
-  pub past_limit : (text : List ℕ) → limit < sum → digits_from limit sum text ≡ Faulty
+  pub past_limit : (text : List ℕ) → limit < sum → digits_from limit sum text ≡ None
   unfolding digits_from
   past_limit text past =
-      ap (λ (b : Bool). cond (all_digits text) (cond b (Value (value_from sum text)) Faulty) Faulty) (lt-leb (value_from sum text) limit (omega (arith, grows sum text)))
-      ∙ cond_same (all_digits text) Faulty
+      ap (λ (b : Bool). cond (all_digits text) (cond b (Some (value_from sum text)) None) None) (lt-leb (value_from sum text) limit (omega (arith, grows sum text)))
+      ∙ cond_same (all_digits text) None
 
-  pub at_end : sum ≤ limit → digits_from limit sum [] ≡ Value sum
+  pub at_end : (text : List ℕ) (i : ℕ) → length text ≤ i → sum ≤ limit → digits_from limit sum (drop i text) ≡ Some sum
   unfolding digits_from
-  at_end within = simp (le-leb sum limit within)
+  at_end text i all within = rw (drop_of_length-le text all) (simp (le-leb sum limit within))
+
+pub ruleset digit_by_digit = (digit_on, digit_off, past_limit, at_end)
 
 -- writing: the steps that are counted down do not matter where they suffice
 
@@ -72,19 +74,13 @@ tens_length n h = ap length (decimal_tens n h) ∙ length-append (decimal (n / 1
 
 -- going back: a text that is a number has only digits, no leading zero, and a value within the limit
 
-faulty_never : (v : ℕ) → Faulty ≡ Value v → ⊥
-faulty_never v e = let z : ◌≡◌ {A = ℕ} 0 1 = cc in omega arith
+all_picked : (a b c : Bool) (x v : ℕ) → cond a (cond b (cond c (Some x) None) None) None ≡ Some v → (a ≡ true) × (b ≡ true) × (c ≡ true) × (x ≡ v)
+all_picked true true true x v e = (refl, refl, refl, same_Some x v e)
+all_picked true true false x v e = absurd (none-some v e)
+all_picked true false c x v e = absurd (none-some v e)
+all_picked false b c x v e = absurd (none-some v e)
 
-same_value : (x v : ℕ) → Value x ≡ Value v → x ≡ v
-same_value x v e = cc
-
-all_picked : (a b c : Bool) (x v : ℕ) → cond a (cond b (cond c (Value x) Faulty) Faulty) Faulty ≡ Value v → (a ≡ true) × (b ≡ true) × (c ≡ true) × (x ≡ v)
-all_picked true true true x v e = (refl, refl, refl, same_value x v e)
-all_picked true true false x v e = absurd (faulty_never v e)
-all_picked true false c x v e = absurd (faulty_never v e)
-all_picked false b c x v e = absurd (faulty_never v e)
-
-module _ (limit : ℕ) (text : List ℕ) (v : ℕ) (is : number limit text ≡ Value v) where
+module _ (limit : ℕ) (text : List ℕ) (v : ℕ) (is : number limit text ≡ Some v) where
   parts : (plain text ≡ true) × (all_digits text ≡ true) × (leb (value_from 0 text) limit ≡ true) × (value_from 0 text ≡ v)
   unfolding number digits_from
   parts = all_picked (plain text) (all_digits text) (leb (value_from 0 text) limit) (value_from 0 text) v is
@@ -169,13 +165,13 @@ decimal_plain n =
     (λ more. (written n).first (by_cases (dec_lt n 1) (λ low. omega (arith, ap length (decimal_digit n (omega arith)))) (λ high. omega arith)))
 
 -- the number that is written is read back
-pub number_written : (limit n : ℕ) → n ≤ limit → number limit (decimal n) ≡ Value n
+pub number_written : (limit n : ℕ) → n ≤ limit → number limit (decimal n) ≡ Some n
 unfolding number digits_from
 number_written limit n h =
-    ap (λ (b : Bool). cond b (cond (all_digits (decimal n)) (cond (leb (value_from 0 (decimal n)) limit) (Value (value_from 0 (decimal n))) Faulty) Faulty) Faulty) (decimal_plain n)
-    ∙ ap (λ (b : Bool). cond b (cond (leb (value_from 0 (decimal n)) limit) (Value (value_from 0 (decimal n))) Faulty) Faulty) (written n).digits
-    ∙ ap (λ (v : ℕ). cond (leb v limit) (Value v) Faulty) (written n).value
-    ∙ ap (λ (b : Bool). cond b (Value n) Faulty) (le-leb n limit h)
+    ap (λ (b : Bool). cond b (cond (all_digits (decimal n)) (cond (leb (value_from 0 (decimal n)) limit) (Some (value_from 0 (decimal n))) None) None) None) (decimal_plain n)
+    ∙ ap (λ (b : Bool). cond b (cond (leb (value_from 0 (decimal n)) limit) (Some (value_from 0 (decimal n))) None) None) (written n).digits
+    ∙ ap (λ (v : ℕ). cond (leb v limit) (Some v) None) (written n).value
+    ∙ ap (λ (b : Bool). cond b (Some n) None) (le-leb n limit h)
 
 -- a text that is read is what would be written: digit by digit, behind a number that is not 0
 
@@ -187,15 +183,15 @@ decimal_next sum d h low =
     ∙ ap (λ (m : ℕ). decimal m ++ ((48 + (10 * sum + d) % 10) ∷ [])) tenth
     ∙ ap (λ (m : ℕ). decimal sum ++ ((48 + m) ∷ [])) last
 
+pub both_true : (p q : Bool) → (p && q) ≡ true → (p ≡ true) × (q ≡ true)
+both_true true q x = (refl, x)
+both_true false q x = absurd (false≢true x)
+
 pub digit_bounds : (b : ℕ) (t : Bool) → (is_digit b && t) ≡ true → (48 ≤ b) × (b ≤ 57) × (t ≡ true)
 digit_bounds b t e =
-    let first = and_parts (is_digit b) t e in
-    let both = and_parts (leb 48 b) (leb b 57) first.0 in
+    let first = both_true (is_digit b) t e in
+    let both = both_true (leb 48 b) (leb b 57) first.0 in
     (leb-true 48 b both.0, leb-true b 57 both.1, first.1)
-  where
-    and_parts : (p q : Bool) → (p && q) ≡ true → (p ≡ true) × (q ≡ true)
-    and_parts true q x = (refl, x)
-    and_parts false q x = absurd (false≢true x)
 
 decimal_more : (sum : ℕ) (text : List ℕ) → 1 ≤ sum → all_digits text ≡ true → decimal (value_from sum text) ≡ decimal sum ++ text
 decimal_more sum [] h e = sym (append-nil (decimal sum))
@@ -229,7 +225,7 @@ decimal_of (b ∷ x ∷ bs) p e =
     ∙ ap (λ (l : List ℕ). l ++ (x ∷ bs)) (decimal_digit (10 * 0 + (b - 48)) (omega (arith, here.1)))
     ∙ ap (λ (y : ℕ). y ∷ x ∷ bs) byte
 
-pub number_back : (limit : ℕ) (text : List ℕ) (v : ℕ) → number limit text ≡ Value v → text ≡ decimal v
+pub number_back : (limit : ℕ) (text : List ℕ) (v : ℕ) → number limit text ≡ Some v → text ≡ decimal v
 number_back limit text v is =
     let p = parts limit text v is in
     sym (decimal_of text p.0 p.1) ∙ ap decimal p.3

@@ -1,84 +1,78 @@
 -- Lists: one entry at a time, read and written.
 use mathlib.Core.Path.{◌≡◌, refl, sym, ap, ap₂, ◌∙◌}
 use mathlib.Core.Logic.{by_cases}
-use mathlib.Core.Bool.{Bool, true, false, false≢true, cond}
+use mathlib.Core.Bool.{Bool, true, false, cond}
 use mathlib.Core.List.{List, [], ◌∷◌, ◌++◌, append_assoc, append-nil}
-use mathlib.Core.Option.{Option, none, some}
+use Rattle.std.specs.Prelude.{Option, Some, None}
+use Rattle.std.proofs.lemmas.Option.{none-some, same_Some}
 use Prim.Native.Nat.{ℕ, zero, suc, ◌+◌, ◌-◌, ◌≤◌, ◌<◌}
 use native.Mathlib.Omega.{arith}
 use native.Mathlib.Numerals.{add-one}
 use native.Mathlib.Decide.{dec_lt}
 use borrow.Author.Tests.{lt-ltb, le-ltb, le-leb, lt-leb, ltb-true}
-use lib.ListN.{length, get_or, take, drop, set, replicate, length-append, length-drop, length-set, get_or-eq_default}
-use lib.Seq.{take-suc-set, take_all, length-take-le, get_or-take, get_or-set_other, drop-drop}
+use lib.ListN.{length, get_or, take, drop, set, length-append, length-drop, length-set, get_or-eq_default}
+use lib.Seq.{take-suc-set, take_all, length-take-le, get_or-take, get_or-set_other}
 use Rattle.model.specs.Lists.{at, eight}
 use Rattle.model.proofs.Entries.{at_eight, length_eight, same_entries}
-use Rattle.lines.specs.declared.numbers.Number.{Number}
-use Rattle.lines.specs.declared.numbers.Number.TheVariants.{Value, Faulty}
 use Rattle.lines.specs.Numbers.{number, decimal}
-use Rattle.lines.proofs.Decimals.{decimal_digits, decimal_some, number_written, number_back, number_limit}
-use Rattle.lines.proofs.Parts.{digits_lack, is_found, before_it, behind_it_lem, parted}
+use Rattle.lines.proofs.Decimals.{cond_same, decimal_digits, decimal_some, number_written, number_back, number_limit}
+use Rattle.lines.proofs.Parts.{find_most, digits_lack, is_found, before_it, behind_it_lem, parted}
 use Rattle.lines.specs.Find.{find, found, before, behind}
-use Rattle.lines.specs.declared.lists.Listed.{Listed}
-use Rattle.lines.specs.Lists.{with_entry, entries, listed, listed_by, not_listed, comma_list, more_entries}
+use Rattle.lines.specs.Lists.{with_entry, entries, listed, listed_by, comma_list, more_entries}
 
 -- the rest of a text, as it is lent on
 pub rest_of : (text : List ℕ) (at : ℕ) → take (length text - at) (drop at text) ≡ drop at text
 rest_of text at = take_all (length text - at) (drop at text) (omega (arith, length-drop at text))
 
+pub rest_long : (text : List ℕ) (at : ℕ) → length (take (length text - at) (drop at text)) ≡ length text - at
+rest_long text at = ap length (rest_of text at) ∙ length-drop at text
+
 -- entries that were read, before what the rest gives
 abbrev pub behind_them : List ℕ → Option (List ℕ) → Option (List ℕ)
-behind_them vs none = none
-behind_them vs (some ws) = some (vs ++ ws)
+behind_them vs None = None
+behind_them vs (Some ws) = Some (vs ++ ws)
 
-behind_one : (vs : List ℕ) (v : ℕ) (o : Option (List ℕ)) → behind_them vs (with_entry (Value v) o) ≡ behind_them (vs ++ (v ∷ [])) o
-behind_one vs v none = refl
-behind_one vs v (some ws) = ap some (sym (append_assoc vs (v ∷ []) ws))
-
-either_none : (b : Bool) → ◌≡◌ {A = Option (List ℕ)} (cond b none none) none
-either_none true = refl
-either_none false = refl
+behind_one : (vs : List ℕ) (v : ℕ) (o : Option (List ℕ)) → behind_them vs (with_entry (Some v) o) ≡ behind_them (vs ++ (v ∷ [])) o
+behind_one vs v None = refl
+behind_one vs v (Some ws) = ap Some (sym (append_assoc vs (v ∷ []) ws))
 
 module _ (vs rest : List ℕ) (count j : ℕ) where
   -- more than one entry is due: a comma must end this one
-  module _ (more : j + 1 < count) where
+  module _ (more : j + 1 < count) (end : ℕ) (is : end ≡ find 44 rest) where
     two : count - j ≡ suc (suc (count - j - 2))
     two = omega arith
 
-    pub entry_read : (v : ℕ) → find 44 rest < length rest → number 255 (take (find 44 rest) rest) ≡ Value v → behind_them vs (entries (count - j) rest) ≡ behind_them (vs ++ (v ∷ [])) (entries (count - (j + 1)) (drop (find 44 rest + 1) rest))
+    pub entry_read : (v : ℕ) → (end ≡ length rest → ⊥) → number 255 (take end rest) ≡ Some v → behind_them vs (entries (count - j) rest) ≡ behind_them (vs ++ (v ∷ [])) (entries (count - (j + 1)) (drop (end + 1) rest))
     entry_read v h e =
         let one : suc (count - j - 2) ≡ count - (j + 1) = omega arith in
+        let there : find 44 rest < length rest = omega (arith, find_most 44 rest) in
         ap (λ (m : ℕ). behind_them vs (entries m rest)) two
-        ∙ ap (λ (b : Bool). behind_them vs (cond b (with_entry (number 255 (before 44 rest)) (entries (suc (count - j - 2)) (behind 44 rest))) none)) (lt-ltb (find 44 rest) (length rest) h)
-        ∙ ap (λ (x : Number). behind_them vs (with_entry x (entries (suc (count - j - 2)) (behind 44 rest)))) e
-        ∙ behind_one vs v (entries (suc (count - j - 2)) (behind 44 rest))
-        ∙ ap (λ (m : ℕ). behind_them (vs ++ (v ∷ [])) (entries m (behind 44 rest))) one
+        ∙ ap (λ (b : Bool). behind_them vs (cond b (with_entry (number 255 (before 44 rest)) (entries (suc (count - j - 2)) (behind 44 rest))) None)) (lt-ltb (find 44 rest) (length rest) there)
+        ∙ ap (λ (k : ℕ). behind_them vs (with_entry (number 255 (take k rest)) (entries (suc (count - j - 2)) (drop (k + 1) rest)))) (sym is)
+        ∙ ap (λ (x : Option ℕ). behind_them vs (with_entry x (entries (suc (count - j - 2)) (drop (end + 1) rest)))) e
+        ∙ behind_one vs v (entries (suc (count - j - 2)) (drop (end + 1) rest))
+        ∙ ap (λ (m : ℕ). behind_them (vs ++ (v ∷ [])) (entries m (drop (end + 1) rest))) one
 
-    pub no_comma : length rest ≤ find 44 rest → behind_them vs (entries (count - j) rest) ≡ none
+    pub no_comma : end ≡ length rest → behind_them vs (entries (count - j) rest) ≡ None
     no_comma h =
         ap (λ (m : ℕ). behind_them vs (entries m rest)) two
-        ∙ ap (λ (b : Bool). behind_them vs (cond b (with_entry (number 255 (before 44 rest)) (entries (suc (count - j - 2)) (behind 44 rest))) none)) (le-ltb (find 44 rest) (length rest) h)
+        ∙ ap (λ (b : Bool). behind_them vs (cond b (with_entry (number 255 (before 44 rest)) (entries (suc (count - j - 2)) (behind 44 rest))) None)) (le-ltb (find 44 rest) (length rest) (omega arith))
 
-    pub faulty_entry : number 255 (take (find 44 rest) rest) ≡ Faulty → behind_them vs (entries (count - j) rest) ≡ none
+    pub faulty_entry : number 255 (take end rest) ≡ None → behind_them vs (entries (count - j) rest) ≡ None
     faulty_entry e =
         ap (λ (m : ℕ). behind_them vs (entries m rest)) two
-        ∙ ap (λ (x : Number). behind_them vs (cond (found 44 rest) (with_entry x (entries (suc (count - j - 2)) (behind 44 rest))) none)) e
-        ∙ ap (behind_them vs) (either_none (found 44 rest))
+        ∙ ap (λ (x : Option ℕ). behind_them vs (cond (found 44 rest) (with_entry x (entries (suc (count - j - 2)) (behind 44 rest))) None)) (ap (λ (k : ℕ). number 255 (take k rest)) (sym is) ∙ e)
+        ∙ ap (behind_them vs) (cond_same (found 44 rest) None)
 
   -- one entry is due: it is the whole rest
   module _ (some_left : j < count) (last : count ≤ j + 1) where
     one_left : count - j ≡ suc zero
     one_left = omega arith
 
-    pub last_read : (v : ℕ) → number 255 rest ≡ Value v → behind_them vs (entries (count - j) rest) ≡ some (vs ++ (v ∷ []))
+    pub last_read : (v : ℕ) → number 255 rest ≡ Some v → behind_them vs (entries (count - j) rest) ≡ Some (vs ++ (v ∷ []))
     last_read v e =
         ap (λ (m : ℕ). behind_them vs (entries m rest)) one_left
-        ∙ ap (λ (x : Number). behind_them vs (with_entry x (some []))) e
-
-    pub last_faulty : number 255 rest ≡ Faulty → behind_them vs (entries (count - j) rest) ≡ none
-    last_faulty e =
-        ap (λ (m : ℕ). behind_them vs (entries m rest)) one_left
-        ∙ ap (λ (x : Number). behind_them vs (with_entry x (some []))) e
+        ∙ ap (λ (x : Option ℕ). behind_them vs (with_entry x (Some []))) e
 
 -- the eight values after a store at the first that is not set yet
 module _ (values : List ℕ) (j v : ℕ) (long : length values ≡ 8) (fits : j < 8) (clear : (i : ℕ) → j ≤ i → get_or values i 0 ≡ 0) where
@@ -101,40 +95,16 @@ module _ (values : List ℕ) (j v : ℕ) (long : length values ≡ 8) (fits : j 
       low_entry : (i : ℕ) → i < j + 1 → get_or (set values j v) i 0 ≡ get_or (take j values ++ (v ∷ [])) i 0
       low_entry i low = sym (get_or-take (j + 1) (set values j v) i 0 low) ∙ ap (λ (l : List ℕ). get_or l i 0) next_values
 
--- nothing is set yet
-pub clear_zeros : (n i : ℕ) → ◌≡◌ {A = ℕ} (get_or (replicate n 0) i 0) 0
-clear_zeros zero i = refl
-clear_zeros (suc n) zero = refl
-clear_zeros (suc n) (suc i) = clear_zeros n i
-
--- before the first turn, and from one turn to the next
-pub whole : (count : ℕ) (text : List ℕ) → entries count text ≡ behind_them [] (entries (count - 0) text)
-whole count text =
-    let same : count - 0 ≡ count = omega arith in
-    sym (ap (λ (m : ℕ). behind_them [] (entries m text)) same ∙ none_before (entries count text))
-  where
-    none_before : (o : Option (List ℕ)) → behind_them [] o ≡ o
-    none_before none = refl
-    none_before (some ws) = refl
-
-pub further : (vs ws : List ℕ) (left : ℕ) (text : List ℕ) (at length length' : ℕ) → vs ≡ ws → length' ≡ length → behind_them ws (entries left (drop (length + 1) (drop at text))) ≡ behind_them vs (entries left (drop (at + length' + 1) text))
-further vs ws left text at length length' same long =
-    let e : at + (length + 1) ≡ at + length' + 1 = omega arith in
-    ap (λ (l : List ℕ). behind_them ws (entries left l)) (drop-drop (length + 1) at text ∙ ap (λ (n : ℕ). drop n text) e)
-    ∙ ap (λ (l : List ℕ). behind_them l (entries left (drop (at + length' + 1) text))) (sym same)
+pub ruleset entry_by_entry = (find_most, number_limit, rest_of, rest_long, length-take-le, entry_read, no_comma, faulty_entry, last_read, next_values, still_clear, all_values)
 
 -- lists of one to eight entries
 pub listed_some : (count : ℕ) (text : List ℕ) → count ≤ 8 → listed count text ≡ listed_by (entries count text)
 unfolding listed
-listed_some count text h = ap (λ (b : Bool). cond b (listed_by (entries count text)) not_listed) (le-leb count 8 h)
+listed_some count text h = ap (λ (b : Bool). cond b (listed_by (entries count text)) None) (le-leb count 8 h)
 
-pub listed_many : (count : ℕ) (text : List ℕ) → 8 < count → listed count text ≡ not_listed
+pub listed_many : (count : ℕ) (text : List ℕ) → 8 < count → listed count text ≡ None
 unfolding listed
-listed_many count text h = ap (λ (b : Bool). cond b (listed_by (entries count text)) not_listed) (lt-leb count 8 h)
-
-pub listed_none : (count : ℕ) (text : List ℕ) → count ≡ 0 → listed count text ≡ not_listed
-listed_none count text e =
-    listed_some count text (omega arith) ∙ ap (λ (m : ℕ). listed_by (entries m text)) e
+listed_many count text h = ap (λ (b : Bool). cond b (listed_by (entries count text)) None) (lt-leb count 8 h)
 
 -- what is written is read back, and what is read is what would be written
 
@@ -145,14 +115,14 @@ pub data Small : List ℕ → Type 0 where
 pub decimal_lacks : (byte v : ℕ) → byte < 48 → find byte (decimal v) ≡ length (decimal v)
 decimal_lacks byte v h = digits_lack byte (decimal v) h (decimal_digits v)
 
-pub entries_written : (v : ℕ) (vs : List ℕ) → Small (v ∷ vs) → entries (suc (length vs)) (comma_list (v ∷ vs)) ≡ some (v ∷ vs)
+pub entries_written : (v : ℕ) (vs : List ℕ) → Small (v ∷ vs) → entries (suc (length vs)) (comma_list (v ∷ vs)) ≡ Some (v ∷ vs)
 entries_written v [] (and_small h rest) =
-    ap (λ (l : List ℕ). with_entry (number 255 l) (some [])) (append-nil (decimal v))
-    ∙ ap (λ (x : Number). with_entry x (some [])) (number_written 255 v h)
+    ap (λ (l : List ℕ). with_entry (number 255 l) (Some [])) (append-nil (decimal v))
+    ∙ ap (λ (x : Option ℕ). with_entry x (Some [])) (number_written 255 v h)
 entries_written v (w ∷ ws) (and_small h rest) =
     let text = decimal v ++ (44 ∷ comma_list (w ∷ ws)) in
     let lacks = decimal_lacks 44 v (omega arith) in
-    ap (λ (b : Bool). cond b (with_entry (number 255 (before 44 text)) (entries (suc (length ws)) (behind 44 text))) none) (lt-ltb (find 44 text) (length text) (is_found 44 (decimal v) (comma_list (w ∷ ws)) lacks))
+    ap (λ (b : Bool). cond b (with_entry (number 255 (before 44 text)) (entries (suc (length ws)) (behind 44 text))) None) (lt-ltb (find 44 text) (length text) (is_found 44 (decimal v) (comma_list (w ∷ ws)) lacks))
     ∙ ap₂ (λ (l r : List ℕ). with_entry (number 255 l) (entries (suc (length ws)) r)) (before_it 44 (decimal v) (comma_list (w ∷ ws)) lacks) (behind_it_lem 44 (decimal v) (comma_list (w ∷ ws)) lacks)
     ∙ ap₂ with_entry (number_written 255 v h) (entries_written w ws rest)
 
@@ -163,33 +133,27 @@ pub record Back (count : ℕ) (text vs : List ℕ) : Type 0 where
   pub small : Small vs
   pub filled : 1 ≤ length vs
 
-none_never : (vs : List ℕ) → none ≡ some vs → ⊥
-none_never vs e = let z : ◌≡◌ {A = ℕ} 0 1 = cc in omega arith
-
-same_some : (vs ws : List ℕ) → some vs ≡ some ws → vs ≡ ws
-same_some vs ws e = cc
-
-record FirstBack (x : Number) (o : Option (List ℕ)) (vs : List ℕ) : Type 0 where
+record FirstBack (x : Option ℕ) (o : Option (List ℕ)) (vs : List ℕ) : Type 0 where
   first : ℕ
   others : List ℕ
-  is : x ≡ Value first
-  rest : o ≡ some others
+  is : x ≡ Some first
+  rest : o ≡ Some others
   both : vs ≡ first ∷ others
 
-first_back : (x : Number) (o : Option (List ℕ)) (vs : List ℕ) → with_entry x o ≡ some vs → FirstBack x o vs
-first_back Faulty o vs e = absurd (none_never vs e)
-first_back (Value v) none vs e = absurd (none_never vs e)
-first_back (Value v) (some ws) vs e =
-    record { first = v; others = ws; is = refl; rest = refl; both = sym (same_some (v ∷ ws) vs e) }
+first_back : (x : Option ℕ) (o : Option (List ℕ)) (vs : List ℕ) → with_entry x o ≡ Some vs → FirstBack x o vs
+first_back None o vs e = absurd (none-some vs e)
+first_back (Some v) None vs e = absurd (none-some vs e)
+first_back (Some v) (Some ws) vs e =
+    record { first = v; others = ws; is = refl; rest = refl; both = sym (same_Some (v ∷ ws) vs e) }
 
-picked : (b : Bool) (o : Option (List ℕ)) (vs : List ℕ) → cond b o none ≡ some vs → (b ≡ true) × (o ≡ some vs)
+picked : (b : Bool) (o : Option (List ℕ)) (vs : List ℕ) → cond b o None ≡ Some vs → (b ≡ true) × (o ≡ Some vs)
 picked true o vs e = (refl, e)
-picked false o vs e = absurd (none_never vs e)
+picked false o vs e = absurd (none-some vs e)
 
-pub entries_back : (more : ℕ) (text vs : List ℕ) → entries (suc more) text ≡ some vs → Back (suc more) text vs
+pub entries_back : (more : ℕ) (text vs : List ℕ) → entries (suc more) text ≡ Some vs → Back (suc more) text vs
 entries_back zero text vs e =
-    let f = first_back (number 255 text) (some []) vs e in
-    let none_more : f.others ≡ [] = sym (same_some [] f.others f.rest) in
+    let f = first_back (number 255 text) (Some []) vs e in
+    let none_more : f.others ≡ [] = sym (same_Some [] f.others f.rest) in
     let one : vs ≡ f.first ∷ [] = f.both ∙ ap (λ (l : List ℕ). f.first ∷ l) none_more in
     record {
       long = ap length one;
@@ -219,39 +183,34 @@ entries_back (suc more) text vs e =
         }
 
 -- a list that the reader answers
-pub record ListedBack (count : ℕ) (text : List ℕ) : Type 0 where
+pub record ListedBack (count : ℕ) (text values : List ℕ) : Type 0 where
   pub listed_values : List ℕ
-  pub values : (listed count text).values ≡ eight (at listed_values)
+  pub values_are : values ≡ eight (at listed_values)
   pub back : Back count text listed_values
   pub most : count ≤ 8
 
-record Some (o : Option (List ℕ)) : Type 0 where
+record FromEntries (o : Option (List ℕ)) (values : List ℕ) : Type 0 where
   vs : List ℕ
-  is : o ≡ some vs
-  values : (listed_by o).values ≡ eight (at vs)
+  is : o ≡ Some vs
+  values_are : values ≡ eight (at vs)
 
-list_some : (o : Option (List ℕ)) → (listed_by o).fits ≡ true → Some o
-unfolding not_listed
-list_some none e = absurd (false≢true e)
-list_some (some vs) e = record { vs = vs; is = refl; values = refl }
+from_entries : (o : Option (List ℕ)) (values : List ℕ) → listed_by o ≡ Some values → FromEntries o values
+from_entries None values e = absurd (none-some values e)
+from_entries (Some vs) values e =
+    record { vs = vs; is = refl; values_are = sym (same_Some (eight (at vs)) values e) }
 
-not_listed_lem : not_listed.fits ≡ true → ⊥
-unfolding not_listed
-not_listed_lem e = false≢true e
-
-pub listed_back : (count : ℕ) (text : List ℕ) → (listed count text).fits ≡ true → ListedBack count text
-listed_back count text e =
-    by_cases (dec_lt 8 count)
-    (λ many. absurd (not_listed_lem (sym (ap (λ (l : Listed). l.fits) (listed_many count text many)) ∙ e)))
-    (λ few. within count text (omega arith) (sym (ap (λ (l : Listed). l.fits) (listed_some count text (omega arith))) ∙ e))
+pub listed_back : (count : ℕ) (text values : List ℕ) → listed count text ≡ Some values → ListedBack count text values
+listed_back count text values e =
+    by_cases (dec_lt 8 count) (λ many. absurd (none-some values (sym (listed_many count text many) ∙ e)))
+    (λ few. within count text values (omega arith) (sym (listed_some count text (omega arith)) ∙ e))
   where
-    within : (n : ℕ) (l : List ℕ) → n ≤ 8 → (listed_by (entries n l)).fits ≡ true → ListedBack n l
-    within zero l h f = absurd (not_listed_lem f)
-    within (suc n) l h f =
-        let s = list_some (entries (suc n) l) f in
+    within : (n : ℕ) (l vs : List ℕ) → n ≤ 8 → listed_by (entries n l) ≡ Some vs → ListedBack n l vs
+    within zero l vs h f = absurd (none-some vs f)
+    within (suc n) l vs h f =
+        let s = from_entries (entries (suc n) l) vs f in
         record {
           listed_values = s.vs;
-          values = ap (λ (x : Listed). x.values) (listed_some (suc n) l h) ∙ s.values;
+          values_are = s.values_are;
           back = entries_back n l s.vs s.is;
           most = h;
         }
@@ -266,7 +225,7 @@ back_filled count text vs b = omega (arith, ap length b.bytes, filled vs b.fille
     filled [] h = let no : ⊥ = omega arith in absurd no
     filled (w ∷ ws) h = list_filled w ws
 
-pub listed_written : (v : ℕ) (vs : List ℕ) → suc (length vs) ≤ 8 → Small (v ∷ vs) → listed (suc (length vs)) (comma_list (v ∷ vs)) ≡ record { fits = true; values = eight (at (v ∷ vs)) }
+pub listed_written : (v : ℕ) (vs : List ℕ) → suc (length vs) ≤ 8 → Small (v ∷ vs) → listed (suc (length vs)) (comma_list (v ∷ vs)) ≡ Some (eight (at (v ∷ vs)))
 listed_written v vs h small =
     listed_some (suc (length vs)) (comma_list (v ∷ vs)) h ∙ ap listed_by (entries_written v vs small)
 

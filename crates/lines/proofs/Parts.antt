@@ -1,19 +1,23 @@
 -- Where a text parts: one turn of each search, and the parts of a text that is put together.
 use mathlib.Core.Path.{◌≡◌, refl, sym, ap, ap₂, ◌∙◌}
 use mathlib.Core.Logic.{◌≢◌, by_cases}
-use mathlib.Core.Bool.{Bool, true, false, true≢false, false≢true, cond, ◌&&◌}
+use mathlib.Core.Bool.{Bool, true, false, false≢true, cond, ◌&&◌}
 use mathlib.Core.List.{List, [], ◌∷◌, ◌++◌}
 use Prim.Native.Nat.{ℕ, suc, ◌+◌, ◌≤◌, ◌<◌}
 use native.Mathlib.Omega.{arith}
-use native.Mathlib.Decide.{ℕ_discrete, dec_le, dec_lt}
-use native.Mathlib.Numerals.{add-one}
+use native.Mathlib.Decide.{ℕ_discrete, dec_lt}
 use borrow.Author.Tests.{lt-ltb, le-ltb, eq-eqb, ne_eqb, eqb-true}
-use lib.Dec.{T, eqb}
-use lib.ListN.{length, get_or, take, drop, length-append, drop_of_length-le}
-use lib.Seq.{drop-cons, take_at, drop-append-add, drop-append_seam}
+use lib.Dec.{T, eqb, ltb}
+use lib.ListN.{length, take, drop, length-append}
+use lib.Seq.{length-take-le, take_at, drop-append-add, drop-append_seam}
+use lib.Pointwise.{pointwise}
+use Rattle.std.specs.Prelude.{Option, Some, None, MatchOption, unwrap_or}
+use Rattle.std.proofs.Common.{Bor}
+use Rattle.std.specs.List.{position_or_len}
+use Rattle.std.proofs.lemmas.List.Recursion.{is_position_or_len}
 use Rattle.model.proofs.Tests.{holds}
 use Rattle.lines.specs.Numbers.{all_digits}
-use Rattle.lines.proofs.Decimals.{digit_bounds}
+use Rattle.lines.proofs.Decimals.{digit_bounds, both_true}
 use Rattle.lines.specs.Find.{find, found, line_length, first_line, rest_lines, starts_with, value_behind}
 
 -- the search for a byte
@@ -26,38 +30,47 @@ pub find_most : (byte : ℕ) (text : List ℕ) → find byte text ≤ length tex
 find_most byte [] = omega arith
 find_most byte (b ∷ bs) = at_most_one_more (eqb b byte) (find byte bs) (length bs) (find_most byte bs)
 
-module _ (byte : ℕ) (text : List ℕ) (i : ℕ) (h : i < length text) where
-  pub find_here : get_or text i 0 ≡ byte → find byte (drop i text) ≡ 0
-  find_here e = rw (drop-cons text i 0 h) (simp (eq-eqb (get_or text i 0) byte e))
+-- as the library's search has it
+pub find_is : (byte : ℕ) (text : List ℕ) → find byte text ≡ position_or_len (λ b. eqb b byte) text
+find_is byte text =
+    is_position_or_len (find byte) (λ b. eqb b byte) refl
+    (λ b bs. ap (λ (n : ℕ). cond (eqb b byte) 0 n) (omega arith)) text
 
-  pub find_on : (get_or text i 0 ≡ byte → ⊥) → i + find byte (drop i text) ≡ i + 1 + find byte (drop (i + 1) text)
-  find_on e = rw (add-one i, drop-cons text i 0 h) (simp (ne_eqb (get_or text i 0) byte e) (omega arith))
+pub find_from : (byte : ℕ) (text : List ℕ) (r : Option ℕ) → r ≡ cond (ltb (position_or_len (λ b. eqb b byte) text) (length text)) (Some (position_or_len (λ b. eqb b byte) text)) None → unwrap_or r (length text) ≡ find byte text
+find_from byte text r e =
+    let at = position_or_len (λ b. eqb b byte) text in
+    by_cases (dec_lt at (length text))
+    (λ h. ap (λ (o : Option ℕ). unwrap_or o (length text)) (e ∙ ap (λ (t : Bool). cond t (Some at) None) (lt-ltb at (length text) h)) ∙ sym (find_is byte text))
+    (λ n. ap (λ (o : Option ℕ). unwrap_or o (length text)) (e ∙ ap (λ (t : Bool). cond t (Some at) None) (le-ltb at (length text) (omega arith))) ∙ omega (arith, find_is byte text, find_most byte text))
 
--- the comparison with a key
+-- the comparison with a key, as the library has it: the text's front against the key, and the key against the text's front
 
-pub key_short : (key text : List ℕ) → length text < length key → starts_with key text ≡ false
-key_short [] text h = let no : ⊥ = omega arith in absurd no
-key_short (k ∷ ks) [] h = refl
-key_short (k ∷ ks) (b ∷ bs) h = rest (eqb b k) (key_short ks bs (omega arith))
-  where
-    rest : (t : Bool) → starts_with ks bs ≡ false → (t && starts_with ks bs) ≡ false
-    rest true e = e
-    rest false e = refl
+pub starts_is : (key text : List ℕ) → starts_with key text ≡ pointwise eqb (take (length key) text) key
+starts_is [] text = refl
+starts_is (k ∷ ks) [] = refl
+starts_is (k ∷ ks) (b ∷ bs) = ap (λ (t : Bool). eqb b k && t) (starts_is ks bs)
 
-module _ (key text : List ℕ) (i : ℕ) (inKey : i < length key) (inText : i < length text) where
-  pub key_on : get_or text i 0 ≡ get_or key i 0 → starts_with (drop i key) (drop i text) ≡ starts_with (drop (i + 1) key) (drop (i + 1) text)
-  key_on e = rw (add-one i, drop-cons key i 0 inKey, drop-cons text i 0 inText) (simp (eq-eqb (get_or text i 0) (get_or key i 0) e))
+eqb_other_way : (x y : ℕ) → eqb x y ≡ eqb y x
+eqb_other_way x y =
+    by_cases (ℕ_discrete x y) (λ e. simp (eq-eqb x y e, eq-eqb y x (sym e)))
+    (λ other. simp (ne_eqb x y other, ne_eqb y x (λ e. other (sym e))))
 
-  pub key_off : (get_or text i 0 ≡ get_or key i 0 → ⊥) → starts_with (drop i key) (drop i text) ≡ false
-  key_off e = rw (drop-cons key i 0 inKey, drop-cons text i 0 inText) (simp (ne_eqb (get_or text i 0) (get_or key i 0) e))
+other_way : (xs ys : List ℕ) → pointwise eqb xs ys ≡ pointwise eqb ys xs
+other_way [] [] = refl
+other_way [] (y ∷ ys) = refl
+other_way (x ∷ xs) [] = refl
+other_way (x ∷ xs) (y ∷ ys) = ap₂ (λ (s t : Bool). s && t) (eqb_other_way x y) (other_way xs ys)
 
-pub key_end : (key text : List ℕ) (i : ℕ) → length key ≤ i → starts_with (drop i key) (drop i text) ≡ true
-key_end key text i h = ap (λ (k : List ℕ). starts_with k (drop i text)) (drop_of_length-le key h)
+pub starts_as : (key text : List ℕ) → starts_with key text ≡ pointwise eqb key (take (length key) text)
+starts_as key text = starts_is key text ∙ other_way (take (length key) text) key
 
-pub key_fits : (key text : List ℕ) → starts_with key text ≡ true → length key ≤ length text
-key_fits key text e =
-    by_cases (dec_le (length key) (length text)) (λ h. h)
-    (λ n. absurd (true≢false (sym e ∙ key_short key text (omega arith))))
+-- what a key that is stripped off leaves
+pub value_stripped : (key line : List ℕ) (r : Option (Bor (List ℕ))) (nothing : Bor (List ℕ)) → nothing.now ≡ [] → MatchOption r (pointwise eqb (take (length key) line) key ≡ false) (λ x. (pointwise eqb (take (length key) line) key ≡ true) × (x.now ≡ drop (length key) line) × (length x.now + length key ≡ length line)) → (unwrap_or r nothing).now ≡ value_behind key line
+unfolding value_behind
+value_stripped key line None nothing e h =
+    e ∙ sym (ap (λ (t : Bool). cond t (drop (length key) line) []) (starts_is key line ∙ h))
+value_stripped key line (Some x) nothing e h =
+    h.1 ∙ sym (ap (λ (t : Bool). cond t (drop (length key) line) []) (starts_is key line ∙ h.0))
 
 -- a part that lacks a byte: the search for it goes through
 
@@ -155,12 +168,8 @@ key_and_rest : (key line : List ℕ) → starts_with key line ≡ true → key +
 key_and_rest [] line e = refl
 key_and_rest (k ∷ ks) [] e = absurd (false≢true e)
 key_and_rest (k ∷ ks) (b ∷ bs) e =
-    let t = and_both (eqb b k) (starts_with ks bs) e in
+    let t = both_true (eqb b k) (starts_with ks bs) e in
     ap₂ (λ (x : ℕ) (l : List ℕ). x ∷ l) (sym (eqb-true b k t.0)) (key_and_rest ks bs t.1)
-  where
-    and_both : (p q : Bool) → (p && q) ≡ true → (p ≡ true) × (q ≡ true)
-    and_both true q x = (refl, x)
-    and_both false q x = absurd (false≢true x)
 
 pub starts_key : (key value : List ℕ) → starts_with key (key ++ value) ≡ true
 starts_key [] value = refl
@@ -196,3 +205,7 @@ line_most text = by_test (found 10 text)
     by_test : (t : Bool) → cond t (find 10 text) 0 ≤ length text
     by_test true = find_most 10 text
     by_test false = omega arith
+
+-- the bytes of a line, as they are lent on
+pub line_lent : (text : List ℕ) (end : ℕ) → end ≡ line_length text → end ≡ length (take end text)
+line_lent text end e = sym (length-take-le end text (omega (arith, line_most text)))

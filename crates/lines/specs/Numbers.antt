@@ -1,7 +1,5 @@
 -- Rule 39, numbers in decimal digits.
-use Rattle.std.specs.Prelude.{ℕ, zero, suc, ◌+◌, ◌-◌, ◌*◌, ◌/◌, ◌%◌, Bool, true, false, cond, not, ◌&&◌, List, [], ◌∷◌, ◌++◌, leb, ltb, eqb, length, get_or}
-use Rattle.lines.specs.declared.numbers.Number.{Number}
-use Rattle.lines.specs.declared.numbers.Number.TheVariants.{Value, Faulty}
+use Rattle.std.specs.Prelude.{ℕ, zero, suc, ◌+◌, ◌-◌, ◌*◌, ◌/◌, ◌%◌, Bool, true, false, cond, not, ◌&&◌, List, [], ◌∷◌, ◌++◌, Option, Some, None, leb, ltb, eqb, length, get_or}
 
 -- a number as it is written: its tenth's digits, if it has ten or more, and its last digit. No number has more digits than
 -- its own value and one, so `decimal` counts the steps down from the number itself.
@@ -32,12 +30,12 @@ value_from sum [] = sum
 value_from sum (b ∷ bs) = value_from (10 * sum + (b - 48)) bs
 
 -- rule 40: a value up to a limit
-abbrev pub up_to : ℕ → ℕ → Number
-up_to limit v = cond (leb v limit) (Value v) Faulty
+abbrev pub up_to : ℕ → ℕ → Option ℕ
+up_to limit v = cond (leb v limit) (Some v) None
 
-unfoldable pub digits_from : ℕ → ℕ → List ℕ → Number
-digits_from limit sum text = cond (all_digits text) (up_to limit (value_from sum text)) Faulty
+unfoldable pub digits_from : ℕ → ℕ → List ℕ → Option ℕ
+digits_from limit sum text = cond (all_digits text) (up_to limit (value_from sum text)) None
 
--- the number that a text is
-unfoldable pub number : ℕ → List ℕ → Number
-number limit text = cond (plain text) (digits_from limit 0 text) Faulty
+-- the number that a text is, where it is one
+unfoldable pub number : ℕ → List ℕ → Option ℕ
+number limit text = cond (plain text) (digits_from limit 0 text) None

@@ -3,53 +3,42 @@
 ghost use Rattle.std.specs.Prelude.{◌≡◌};
 ghost use Rattle.lines.specs.Numbers.{plain, digits_from, number};
 
-// What a text says as a number.
-#[derive(Clone, Copy)]
-pub enum Number {
-    Value(u32),
-    Faulty,
-}
-
+#[tactic(auto, unfolding(crate::specs::Numbers::plain))]
 fn is_plain(text: &[u8]) -> bool
     ensures { result ≡ plain text.now }
 {
-    if text.len() == 0 {
-        return false;
+    match text {
+        [] => false,
+        [_] => true,
+        [first, ..] => *first != b'0',
     }
-    if text.len() == 1 {
-        return true;
-    }
-    text[0] != b'0'
 }
 
-fn sum_digits(text: &[u8], limit: u32) -> Number
+#[tactic(auto, using(crate::proofs::Decimals::digit_by_digit))]
+fn sum_digits(text: &[u8], limit: u32) -> Option<u32>
     ensures { result ≡ digits_from limit 0 text.now }
 {
-    let most = limit as u64;
+    let most = u64::from(limit);
     let mut sum: u64 = 0;
-    let mut i: usize = 0;
-    while i < text.len() {
-        let b = text[i];
-        if b < b'0' {
-            return Number::Faulty;
+    for b in text {
+        if !b.is_ascii_digit() {
+            return None;
         }
-        if b'9' < b {
-            return Number::Faulty;
-        }
-        sum = 10 * sum + (b - b'0') as u64;
+        sum = 10 * sum + u64::from(*b - b'0');
         if most < sum {
-            return Number::Faulty;
+            return None;
         }
-        i += 1;
     }
-    Number::Value(sum as u32)
+    Some(sum as u32)
 }
 
-pub fn read_number(text: &[u8], limit: u32) -> Number
+// What a text says as a number, where it is one.
+#[tactic(auto, unfolding(crate::specs::Numbers::number))]
+pub fn read_number(text: &[u8], limit: u32) -> Option<u32>
     ensures { result ≡ number limit text.now }
 {
     if !is_plain(text) {
-        return Number::Faulty;
+        return None;
     }
     sum_digits(text, limit)
 }

@@ -7,6 +7,7 @@ pub mod Box
 pub mod Ranges
 pub mod Causal
 pub mod Refusals
+pub mod Unique
 pub mod Follow
 pub mod Valid
 pub mod Happened

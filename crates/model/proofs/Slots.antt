@@ -71,11 +71,6 @@ unfolding clock_in
 clock_written bytes e clock long full he =
     sets_there bytes (8 * slot e.column e.number) clock 8 long (omega (arith, slot_below e he))
 
--- an entry of a stored clock is a byte of the buffer
-pub at_clock : (bytes : List ℕ) (s j : ℕ) → j < 8 → at (clock_in bytes s) j ≡ at bytes (8 * s + j)
-unfolding clock_in
-at_clock bytes s j h = get_or-take 8 (drop (8 * s) bytes) j 0 h ∙ get_or-drop (8 * s) bytes j 0
-
 -- a whole clock has eight entries; the part of the bytes from 8s to 8s + 8 is it
 pub clock_in_long : (bytes : List ℕ) (s : ℕ) → 8 * s + 8 ≤ length bytes → length (clock_in bytes s) ≡ 8
 unfolding clock_in

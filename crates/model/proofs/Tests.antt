@@ -2,12 +2,15 @@
 use mathlib.Core.Path.{◌≡◌, refl, sym, ap, ap₂, ◌∙◌}
 use mathlib.Core.Logic.{by_cases}
 use mathlib.Core.Bool.{Bool, true, false, false≢true, true≢false, ◌&&◌}
-use Prim.Native.Nat.{ℕ, zero, suc, ◌+◌, ◌<◌}
+use Prim.Native.Nat.{ℕ, zero, suc, ◌+◌, ◌≤◌, ◌<◌}
 use native.Mathlib.Nat.{not-suc-le-zero}
 use native.Mathlib.Decide.{ℕ_discrete}
 use native.Mathlib.Numerals.{add-one}
 use native.Mathlib.Omega.{arith}
 use lib.Dec.{T}
+use lib.ListN.{length, get_or}
+use mathlib.Core.List.{List, [], ◌∷◌}
+use Rattle.std.specs.List.{list_all, zip, range_with_len}
 use Rattle.model.specs.Lists.{all_below, sum_below}
 
 pub and_left : (a b : Bool) → T (a && b) → T a
@@ -21,6 +24,14 @@ and_right false b t = absurd t
 pub and_both : (a b : Bool) → T a → T b → T (a && b)
 and_both true b s t = t
 and_both false b s t = s
+
+and_true : (b : Bool) → b && true ≡ b
+and_true true = refl
+and_true false = refl
+
+and_assoc : (a b c : Bool) → (a && b) && c ≡ a && (b && c)
+and_assoc true b c = refl
+and_assoc false b c = refl
 
 pub holds : (b : Bool) → T b → b ≡ true
 holds true t = refl
@@ -79,3 +90,28 @@ pub sum_below_same : (n : ℕ) (f g : ℕ → ℕ) → ((j : ℕ) → j < n → 
 sum_below_same zero f g same = refl
 sum_below_same (suc n) f g same =
     ap₂ ◌+◌ (sum_below_same n f g (λ j h. same j (omega arith))) (same n (omega arith))
+
+-- a conjunction below the next number, read from its front
+all_below_front : (n : ℕ) (test : ℕ → Bool) → all_below (suc n) test ≡ test 0 && all_below n (λ j. test (suc j))
+all_below_front zero test = sym (and_true (test 0))
+all_below_front (suc n) test =
+    ap (λ (b : Bool). b && test (suc n)) (all_below_front n test) ∙ and_assoc (test 0) (all_below n (λ j. test (suc j))) (test (suc n))
+
+-- a test of each pair that a `zip` gives is a test at each index
+pub all_zipped : (test : ℕ → ℕ → Bool) (xs ys : List ℕ) (n : ℕ) → length xs ≡ n → n ≤ length ys → list_all (λ (p : ℕ × ℕ). test p.0 p.1) (zip xs ys) ≡ all_below n (λ j. test (get_or xs j 0) (get_or ys j 0))
+all_zipped test [] ys n long fits = ap (λ (m : ℕ). all_below m (λ j. test (get_or [] j 0) (get_or ys j 0))) long
+all_zipped test (x ∷ xs) [] n long fits = let z : ⊥ = omega arith in absurd z
+all_zipped test (x ∷ xs) (y ∷ ys) n long fits =
+    ap (λ (b : Bool). test x y && b) (all_zipped test xs ys (length xs) refl (omega arith))
+    ∙ sym (all_below_front (length xs) (λ j. test (get_or (x ∷ xs) j 0) (get_or (y ∷ ys) j 0)))
+    ∙ ap (λ (m : ℕ). all_below m (λ j. test (get_or (x ∷ xs) j 0) (get_or (y ∷ ys) j 0))) long
+
+-- a test of each number that a range gives is a test below its end
+pub all_in_range : (test : ℕ → Bool) (n a : ℕ) → list_all test (range_with_len a n) ≡ all_below n (λ j. test (a + j))
+all_in_range test zero a = refl
+all_in_range test (suc n) a =
+    let start : a ≡ a + 0 = omega arith in
+    ap₂ ◌&&◌ (ap test start)
+    (all_in_range test n (a + 1)
+    ∙ all_below_same n (λ j. test (a + 1 + j)) (λ j. test (a + suc j)) (λ j h. let next : a + 1 + j ≡ a + suc j = omega arith in ap test next))
+    ∙ sym (all_below_front n (λ j. test (a + j)))

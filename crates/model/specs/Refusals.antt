@@ -1,8 +1,6 @@
 -- Rule 52, the numbers of the refusals. Where a definition gives a number, 0 stands for no refusal.
-use Rattle.std.specs.Prelude.{ℕ, cond, eqb}
+use Rattle.std.specs.Prelude.{ℕ, cond, eqb, Result, Ok, Err}
 use Rattle.model.specs.declared.Refusal.{Refusal}
-use Rattle.model.specs.declared.Verdict.{Verdict}
-use Rattle.model.specs.declared.Verdict.TheVariants.{Passed, Refused}
 use Rattle.model.specs.declared.Refusal.TheVariants.{NoSuchTabletCount, ShortBuffer, InvalidStore, NoSuchTablet, OwnEntryNotNext, EntryTooHigh, NotCovered, TabletFull, NoSuchPosition, PlaceOutside, CountTooLarge, FaultyLine, BadSet, ShortOutput, InputTooLong}
 
 abbrev pub number_of : Refusal → ℕ
@@ -37,9 +35,10 @@ number_of ShortOutput = 14
 -- the program's input is too long
 number_of InputTooLong = 15
 
-abbrev pub verdict_number : Verdict → ℕ
-verdict_number Passed = 0
-verdict_number (Refused why) = number_of why
+-- of what a call answers, whatever it gives where nothing is refused
+abbrev pub verdict_number : {A : Type 0} → Result A Refusal → ℕ
+verdict_number (Ok given) = 0
+verdict_number (Err why) = number_of why
 
 -- rule 50: the first that applies
 abbrev pub or_else : ℕ → ℕ → ℕ

@@ -1,6 +1,4 @@
--- Laws of pieces that grow, of the lines that are put, and of how long a line gets.
-pub mod Growing
+-- Laws of the lines that are put, and of how long a line gets.
 pub mod Lengths
-pub mod Fronting
 pub mod Putting
 pub mod Unique

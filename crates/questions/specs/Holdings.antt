@@ -1,25 +1,14 @@
 -- Rules 33 and 34 as the code meets them: what is read of a store for a question is its held values alone.
-use Rattle.std.specs.Prelude.{◌≡◌, ℕ, ◌≤◌, ◌<◌, Bool, true, cond, List, leb, length}
+use Rattle.std.specs.Prelude.{◌≡◌, ℕ, Bool, true, cond, List, leb}
 use Rattle.model.specs.declared.Question.{Question}
 use Rattle.model.specs.declared.Question.TheVariants.{AtLeast, Exactly, All}
-use Rattle.model.specs.Lists.{at, all_below}
+use Rattle.model.specs.Lists.{all_below}
 use Rattle.model.specs.Store.{Store}
 use Rattle.model.specs.Questions.{holding, names, set_fits}
 
 -- of every store that has these held values
 abbrev pub ForHeld : List ℕ → (Store → Type 0) → Type 0
 ForHeld held fact = (s : Store) → s.held ≡ held → fact s
-
--- the held values are of full size, and each event that the counts name has a slot
-pub record HeldReady (held counts : List ℕ) (j : ℕ) : Type 0 where
-  pub full : 2032 ≤ length held
-  pub stored : (i : ℕ) → i < 8 → at counts i ≤ 254
-  pub column : j < 8
-
--- a tablet's holding, a number of 16 bits
-pub record HoldingOf (held counts : List ℕ) (j value : ℕ) : Type 0 where
-  pub value_is : ForHeld held (λ s. value ≡ holding s counts j)
-  pub small : value ≤ 65535
 
 -- rule 34: each tablet of a set holds 1 or more
 abbrev pub each_named : Store → ℕ → List ℕ → Bool

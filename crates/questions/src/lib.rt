@@ -6,21 +6,23 @@ mod sets;
 
 ghost use Rattle.std.specs.Prelude.{◌≡◌};
 ghost use Rattle.model.specs.Questions.{meets};
-ghost use Rattle.questions.specs.Holdings.{ForHeld, HeldReady, question_fits};
+ghost use Rattle.store.specs.Outcomes.{Bounded};
+ghost use Rattle.questions.specs.Holdings.{ForHeld, question_fits};
 
-use holdings::sum_held;
+pub use holdings::Holdings;
 use model::Question;
 use sets::{all_hold, set_fits};
 
 // Whether a cut meets a question. Of a store only the held values are read.
-pub fn cut_meets(held: &[u16], question: Question, counts: &[u8; 8]) -> bool
-    requires { HeldReady held.now counts.now 0 }
-    ensures { ForHeld held.now (λ s. result ≡ meets s question counts.now) }
+#[tactic(auto, unfolding(model::specs::Questions::meets))]
+pub fn cut_meets(holdings: Holdings, question: Question, counts: &[u8; 8]) -> bool
+    requires { Bounded counts.now }
+    ensures { ForHeld holdings.entry.held.now (λ s. result ≡ meets s question counts.now) }
 {
     match question {
-        Question::AtLeast(k) => k <= sum_held(held, counts),
-        Question::Exactly(k) => sum_held(held, counts) == k,
-        Question::All(mask) => all_hold(held, mask, counts),
+        Question::AtLeast(k) => k <= holdings.sum(counts),
+        Question::Exactly(k) => holdings.sum(counts) == k,
+        Question::All(mask) => all_hold(holdings, mask, counts),
     }
 }
 
@@ -29,8 +31,7 @@ pub fn question_fits(n: usize, question: Question) -> bool
     ensures { result ≡ question_fits n question }
 {
     match question {
-        Question::AtLeast(_) => true,
-        Question::Exactly(_) => true,
+        Question::AtLeast(_) | Question::Exactly(_) => true,
         Question::All(mask) => set_fits(n, mask),
     }
 }

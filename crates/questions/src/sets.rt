@@ -1,55 +1,40 @@
-// Named sets of tablets: a mask of eight bits, tablet 1 the lowest, halved on the way.
-ghost use Rattle.std.specs.Prelude.{◌≡◌, ◌%◌, true, cond, eqb};
-ghost use Rattle.model.specs.Questions.{set_fits};
-ghost use Rattle.questions.specs.Holdings.{ForHeld, HeldReady, each_named};
+// Named sets of tablets: a mask of eight bits, tablet 1 the lowest.
+ghost use Rattle.std.specs.Prelude.{◌≡◌, ◌<◌, true, cond};
+ghost use Rattle.model.specs.Questions.{names, set_fits};
+ghost use Rattle.store.specs.Outcomes.{Bounded};
+ghost use Rattle.questions.specs.Holdings.{ForHeld, each_named};
 
-use crate::holdings::holding_at;
+use crate::holdings::Holdings;
 use model::Tablet;
 
-// A fact that is asked only of a tablet that a mask names: the one of its lowest bit.
-fn holds_if_named(mask: u8, fact: bool) -> bool
-    ensures { result ≡ cond (eqb (mask % 2) 1) fact true }
+// Whether a mask names the tablet in column j.
+#[tactic(auto, using(crate::proofs::Laws::bit_named))]
+fn names(mask: u8, j: u8) -> bool
+    requires { j < 8 }
+    ensures { result ≡ names mask j }
 {
-    if mask % 2 == 1 {
-        return fact;
-    }
-    true
+    mask >> j & 1 == 1
+}
+
+// A fact that is asked only of a tablet that the mask names.
+fn holds_if_named(mask: u8, j: u8, fact: bool) -> bool
+    requires { j < 8 }
+    ensures { result ≡ cond (names mask j) fact true }
+{
+    !names(mask, j) || fact
 }
 
 // Whether each tablet that the mask names holds at least 1.
-pub(crate) fn all_hold(held: &[u16], mask: u8, counts: &[u8; 8]) -> bool
-    requires { HeldReady held.now counts.now 0 }
-    ensures { ForHeld held.now (λ s. result ≡ each_named s mask counts.now) }
+pub(crate) fn all_hold(holdings: Holdings, mask: u8, counts: &[u8; 8]) -> bool
+    requires { Bounded counts.now }
+    ensures { ForHeld holdings.entry.held.now (λ s. result ≡ each_named s mask counts.now) }
 {
-    let mut rest = mask;
-    let mut i: u8 = 0;
-    while i < 8 {
-        let number = i + 1;
-        let held_here = holding_at(held, counts, Tablet(number));
-        if !holds_if_named(rest, 1 <= held_here) {
-            return false;
-        }
-        rest = rest / 2;
-        i = number;
-    }
-    true
+    (0..8).all(|j| holds_if_named(mask, j, 1 <= holdings.of(Tablet(j + 1), counts)))
 }
 
 // Whether a named set is not empty and names only tablets up to n.
 pub(crate) fn set_fits(n: usize, mask: u8) -> bool
     ensures { result ≡ set_fits n mask }
 {
-    if mask == 0 {
-        return false;
-    }
-    let mut rest = mask;
-    let mut j: usize = 0;
-    while j < 8 {
-        if !holds_if_named(rest, j < n) {
-            return false;
-        }
-        rest = rest / 2;
-        j += 1;
-    }
-    true
+    1 <= mask && (0..8).all(|j| holds_if_named(mask, j, usize::from(j) < n))
 }

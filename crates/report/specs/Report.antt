@@ -1,24 +1,19 @@
 -- What a report answers and leaves behind, for every input and every lent buffer.
-use Rattle.std.specs.Prelude.{◌≡◌, ℕ, ◌≤◌, Bool, true, cond, List, ◌++◌, ltb, eqb, length, drop}
-use Rattle.model.specs.declared.Record.{Record}
+use Rattle.std.specs.Prelude.{◌≡◌, ℕ, ◌≤◌, Bool, true, cond, List, ◌++◌, Option, Some, None, Result, Ok, Err, ltb, eqb, length, drop}
 use Rattle.model.specs.declared.Question.{Question}
-use Rattle.model.specs.Lists.{at}
+use Rattle.model.specs.declared.Refusal.{Refusal}
 use Rattle.model.specs.declared.Refusal.TheVariants.{FaultyLine, InputTooLong}
-use Rattle.model.specs.Refusals.{number_of, verdict_number}
-use Rattle.model.specs.declared.Verdict.TheVariants.{Passed}
-use Rattle.model.specs.Store.{Store, store_of, store_refusal}
+use Rattle.model.specs.Lists.{at}
+use Rattle.model.specs.Refusals.{number_of}
+use Rattle.model.specs.Store.{Store}
 use Rattle.model.specs.Cuts.{total}
 use Rattle.walks.specs.Counting.{fits64}
 use Rattle.questions.specs.Holdings.{question_fits}
 use Rattle.lines.specs.Find.{rest_lines}
-use Rattle.askline.specs.declared.AskLine.{AskLine}
-use Rattle.askline.specs.declared.AskLine.TheVariants.{Ask, Faulty}
 use Rattle.askline.specs.Ask.{ask_line}
-use Rattle.text.specs.declared.reading.ReadAnswer.{ReadAnswer}
 use Rattle.text.specs.Reading.{ReadOutcome, reading}
+use Rattle.report.specs.declared.Refused.{Refused}
 use Rattle.report.specs.declared.Reported.{Reported}
-use Rattle.report.specs.declared.inputs.Look.{Look}
-use Rattle.report.specs.declared.inputs.Look.TheVariants.{Asks, Refuses}
 use Rattle.answerlines.specs.Printing.{refused_line, answer_lines}
 use Rattle.answerlines.specs.Outputs.{room}
 use Rattle.report.specs.Answers.{witness_of, count_of}
@@ -31,8 +26,21 @@ pub record Printed : Type 0 where
   pub length : ℕ
   pub output : List ℕ
 
+-- an answer's refusal, and 0 and line 0 for none
+abbrev pub refusal_in : {A : Type 0} → Result A Refused → ℕ
+refusal_in (Ok given) = 0
+refusal_in (Err refused) = number_of refused.why
+
+abbrev pub line_in : {A : Type 0} → Result A Refused → ℕ
+line_in (Ok given) = 0
+line_in (Err refused) = refused.line
+
+-- what is printed of so many bytes at the front of an output
+abbrev pub written : ℕ → ℕ → ℕ → List ℕ → Printed
+written refusal line length out = record { refusal = refusal; line = line; length = length; output = out }
+
 abbrev pub printed : Reported → List ℕ → Printed
-printed r out = record { refusal = verdict_number r.verdict; line = r.line; length = r.length; output = out }
+printed r out = written (refusal_in r.answer) (line_in r.answer) r.length out
 
 -- a text at the front of an output; what lies behind stays
 abbrev pub shown : ℕ → ℕ → List ℕ → List ℕ → Printed
@@ -77,17 +85,17 @@ tracing r question out =
     outcome (answering_read r question out) r.store.clocks r.store.held r.store.order
 
 -- Rule 47, what is seen before the trace is read: the size, then the ask line. A faulty ask line is 12.
-abbrev pub looked : AskLine → Look
-looked (Ask question) = Asks question
-looked Faulty = Refuses FaultyLine
+abbrev pub looked : Option Question → Result Question Refusal
+looked (Some question) = Ok question
+looked None = Err FaultyLine
 
-unfoldable pub looking : List ℕ → Look
-looking input = cond (ltb 65536 (length input)) (Refuses InputTooLong) (looked (ask_line input))
+unfoldable pub looking : List ℕ → Result Question Refusal
+looking input = cond (ltb 65536 (length input)) (Err InputTooLong) (looked (ask_line input))
 
 -- such a refusal has line 0, and the trace is not read
-abbrev pub following : Look → List ℕ → List ℕ → List ℕ → List ℕ → List ℕ → ReportOutcome
-following (Refuses why) trace clocks held order out = outcome (refused_shown (number_of why) 0 out) clocks held order
-following (Asks question) trace clocks held order out = tracing (reading trace clocks held order) question out
+abbrev pub following : Result Question Refusal → List ℕ → List ℕ → List ℕ → List ℕ → List ℕ → ReportOutcome
+following (Err why) trace clocks held order out = outcome (refused_shown (number_of why) 0 out) clocks held order
+following (Ok question) trace clocks held order out = tracing (reading trace clocks held order) question out
 
 -- Rule 47, all the checks. An output that is shorter than `room` is 14 before them, and is left as it was: our choice, told at
 -- `room`.
@@ -104,11 +112,12 @@ pub record CountedAll (s : Store) (fits : Bool) (sum : ℕ) (counts : List ℕ) 
   pub sum_is : fits ≡ true → sum ≡ total s
   pub each : fits ≡ true → (p : ℕ) → p ≤ s.events → at counts p ≡ count_of s p
 
--- of every store with these clocks and order: the held values do not matter
-abbrev pub ForTrace : Record → List ℕ → List ℕ → (Store → Type 0) → Type 0
-ForTrace r clocks order fact = (held : List ℕ) → fact (store_of r clocks held order)
+-- what is printed of an answer that an inner function gives: the bytes that it wrote, or its refusal's line, which is still to be written
+abbrev pub told : Result ℕ Refused → List ℕ → Printed
+told (Ok length) out = written 0 0 length out
+told (Err refused) out = refused_shown (number_of refused.why) refused.line out
 
--- what answering may assume of a text that was read
-pub record Answerable (read : ReadAnswer) (clocks held order out : List ℕ) : Type 0 where
-  pub sound : read.verdict ≡ Passed → store_refusal (store_of read.record clocks held order) ≡ 0
-  pub fits : room ≤ length out
+-- the same of a refusal that has line 0
+abbrev pub told_whole : Result ℕ Refusal → List ℕ → Printed
+told_whole (Ok length) out = written 0 0 length out
+told_whole (Err why) out = refused_shown (number_of why) 0 out

@@ -1,88 +1,75 @@
-// The answer to a question on a text that was read. Nothing is written before every line is known.
+// The answer to an input, or the refusal that is to be printed in its place. Nothing is written before every line is known.
 ghost use Rattle.std.specs.Prelude.{◌≡◌, ◌≤◌, length};
-ghost use Rattle.model.specs.Store.{store_of, store_refusal};
-ghost use Rattle.cuts.specs.Outcomes.{SoundTrace};
-ghost use Rattle.text.specs.Reading.{read_outcome};
+ghost use Rattle.model.specs.Store.{store_refusal};
+ghost use Rattle.store.specs.Outcomes.{SameBuffers, store_in};
+ghost use Rattle.lines.specs.Find.{rest_lines};
 ghost use Rattle.answerlines.specs.Outputs.{room};
-ghost use Rattle.report.specs.Report.{printed, counting, answering, answering_read, ForTrace, Answerable};
+ghost use Rattle.report.specs.Report.{told, told_whole, outcome, answering, looking, following};
 
-use crate::refusals::refuse;
+use crate::inputs::look_at;
 use crate::totals::count_all;
-use crate::{Reported, SLOTS};
+use crate::{Refused, SLOTS};
 use answerlines::write_answer;
-use cuts::Answer;
-use cuts::inner::answer_job;
-use model::{Cut, Job, Question, Range, Record, Refusal, Verdict};
-use text::reading::ReadAnswer;
+use cuts::inner::{Sound, answer_job};
+use lines::find::line_length;
+use model::{Job, Question, Range, Refusal};
+use store::{Buffers, Trace};
+use text::reading::ReadRefusal;
 
-// Counts all intervals, and only then writes. The counts stay in a local array until their sum is known to fit.
-fn count_and_write(
-    record: Record,
-    clocks: &[u8],
-    order: &[u8],
-    found: bool,
-    cut: Cut,
-    out: &mut [u8],
-) -> Reported
-    requires { SoundTrace «record» clocks.now order.now × (room ≤ length out.old) }
-    ensures { ForTrace «record» clocks.now order.now (λ s. printed result out.new ≡ counting s found cut.counts out.old) }
-{
-    let mut counts = [0u64; SLOTS + 1];
-    let totals = count_all(record, clocks, order, &mut counts);
-    if !totals.fits {
-        return refuse(Refusal::CountTooLarge, 0, out);
-    }
-    let entries = cut.counts;
-    let length = write_answer(record, &counts, totals.sum, found, &entries, out);
-    Reported {
-        verdict: Verdict::Passed,
-        line: 0,
-        length,
+// A refusal that names no line.
+impl From<Refusal> for Refused {
+    ghost use Rattle.std.specs.Prelude.{◌≡◌};
+
+    ghost from_gives = { λ why refused. refused ≡ record { why = why; line = 0 } };
+
+    fn from(why: Refusal) -> Refused {
+        Refused { why, line: 0 }
     }
 }
 
-fn answer_store(
-    question: Question,
-    record: Record,
-    clocks: &[u8],
-    held: &[u16],
-    order: &[u8],
-    out: &mut [u8],
-) -> Reported
-    requires { (store_refusal (store_of «record» clocks.now held.now order.now) ≡ 0) × (room ≤ length out.old) }
-    ensures { printed result out.new ≡ answering (store_of «record» clocks.now held.now order.now) question out.old }
+impl From<ReadRefusal> for Refused {
+    ghost use Rattle.std.specs.Prelude.{◌≡◌};
+
+    ghost from_gives = { λ read refused. refused ≡ record { why = read.why; line = read.line } };
+
+    fn from(read: ReadRefusal) -> Refused {
+        Refused {
+            why: read.why,
+            line: read.line,
+        }
+    }
+}
+
+// Counts all intervals, and only then writes. The counts stay in a local array until their sum is known to fit.
+fn answer_store(question: Question, trace: Trace, out: &mut [u8]) -> Result<usize, Refusal>
+    requires { (store_refusal (store_in trace) ≡ 0) × (room ≤ length out.old) }
+    ensures { told_whole result out.new ≡ answering (store_in trace.entry) question out.old }
 {
     let job = Job {
         question,
         range: Range::Whole,
     };
-    let asked = answer_job(record, clocks, held, order, job);
-    let answer = asked.answer;
-    let cut = asked.cut;
-    match answer {
-        Answer::Refused(why) => refuse(why, 0, out),
-        Answer::Found => count_and_write(record, clocks, order, true, cut, out),
-        Answer::NoCut => count_and_write(record, clocks, order, false, cut, out),
-    }
+    let witness = answer_job(trace, job)?;
+    let sound = Sound {
+        record: trace.record,
+        clocks: trace.clocks,
+        order: trace.order,
+    };
+    let mut counts = [0u64; SLOTS + 1];
+    let sum = count_all(sound, &mut counts).ok_or(Refusal::CountTooLarge)?;
+    Ok(write_answer(trace.record, &counts, sum, witness, out))
 }
 
-pub(crate) fn answer_read(
-    question: Question,
-    read: ReadAnswer,
-    clocks: &[u8],
-    held: &[u16],
-    order: &[u8],
-    out: &mut [u8],
-) -> Reported
-    requires { Answerable read clocks.now held.now order.now out.old }
-    ensures { printed result out.new ≡ answering_read (read_outcome read clocks.now held.now order.now) question out.old }
+// The question, then the trace, then the answer.
+#[tactic(auto, using(crate::proofs::Asking::look_inside))]
+pub(crate) fn answer(input: &[u8], buffers: &mut Buffers, out: &mut [u8]) -> Result<usize, Refused>
+    requires { room ≤ length out.old }
+    ensures told { outcome (told result out.new) buffers.new.clocks.now buffers.new.held.now buffers.new.order.now ≡ following (looking input.now) (rest_lines input.now) buffers.old.clocks.now buffers.old.held.now buffers.old.order.now out.old }
+    ensures same { SameBuffers buffers.old buffers.new }
 {
-    let verdict = read.verdict;
-    match verdict {
-        Verdict::Refused(why) => refuse(why, read.line, out),
-        Verdict::Passed => {
-            let record = read.record;
-            answer_store(question, record, clocks, held, order, out)
-        }
-    }
+    let question = look_at(input)?;
+    let trace = line_length(input) + 1;
+    let read = text::read(&input[trace..], buffers);
+    let record = read?;
+    Ok(answer_store(question, buffers.trace(record), out)?)
 }

@@ -2,24 +2,15 @@
 ghost use Rattle.std.specs.Prelude.{◌≡◌};
 ghost use Rattle.report.specs.Report.{looking};
 
-use askline::{AskLine, read_ask};
+use askline::read_ask;
 use model::{Question, Refusal};
 
-#[derive(Clone, Copy)]
-pub(crate) enum Look {
-    Asks(Question),
-    Refuses(Refusal),
-}
-
-pub(crate) fn look_at(input: &[u8]) -> Look
+#[tactic(auto, unfolding(crate::specs::Report::looking))]
+pub(crate) fn look_at(input: &[u8]) -> Result<Question, Refusal>
     ensures { result ≡ looking input.now }
 {
     if 65536 < input.len() {
-        return Look::Refuses(Refusal::InputTooLong);
+        return Err(Refusal::InputTooLong);
     }
-    let asked = read_ask(input);
-    match asked {
-        AskLine::Ask(question) => Look::Asks(question),
-        AskLine::Faulty => Look::Refuses(Refusal::FaultyLine),
-    }
+    read_ask(input).ok_or(Refusal::FaultyLine)
 }

@@ -7,13 +7,13 @@ mod refusals;
 mod totals;
 
 ghost use Rattle.std.specs.Prelude.{◌≡◌};
+ghost use Rattle.store.specs.Outcomes.{SameBuffers};
 ghost use Rattle.report.specs.Report.{printed, outcome, reporting};
 
-use answers::answer_read;
-use inputs::{Look, look_at};
-use lines::find::line_length;
-use model::{Refusal, Verdict};
-use refusals::refuse;
+use answers::answer;
+use model::Refusal;
+use refusals::write_refusal;
+pub use store::Buffers;
 
 // One byte more than rule 47 allows, enough to know that an input is too long.
 pub const INPUT_SIZE: usize = 65537;
@@ -24,40 +24,45 @@ pub const SLOTS: usize = 2032;
 
 pub const CLOCKS_SIZE: usize = 8 * SLOTS;
 
+// A refusal and its line; 0 where there is none to name.
+#[derive(Clone, Copy, PartialEq, Eq)]
+pub struct Refused {
+    pub why: Refusal,
+    pub line: usize,
+}
+
 // What a report answers: "answered" or a refusal with its line, and how many bytes at the front of the output are to be
 // printed.
-#[derive(Clone, Copy)]
+#[derive(Clone, Copy, PartialEq, Eq)]
 pub struct Reported {
-    pub verdict: Verdict,
-    pub line: usize,
+    pub answer: Result<(), Refused>,
     pub length: usize,
 }
 
 // Puts what is to be printed for an input to the front of an output. The trace is read into the three buffers: reading tests
 // each event as it takes it and so leaves a sound store, which nothing tests again.
-pub fn make_report(
-    input: &[u8],
-    clocks: &mut [u8],
-    held: &mut [u16],
-    order: &mut [u8],
-    out: &mut [u8],
-) -> Reported
-    ensures { outcome (printed result out.new) clocks.new held.new order.new ≡ reporting input.now clocks.old held.old order.old out.old }
+#[tactic(auto, using(crate::proofs::Asking::report_short))]
+pub fn make_report(input: &[u8], buffers: &mut Buffers, out: &mut [u8]) -> Reported
+    ensures report { outcome (printed result out.new) buffers.new.clocks.now buffers.new.held.now buffers.new.order.now ≡ reporting input.now buffers.old.clocks.now buffers.old.held.now buffers.old.order.now out.old }
+    ensures same { SameBuffers buffers.old buffers.new }
 {
     if out.len() < OUTPUT_SIZE {
         return Reported {
-            verdict: Verdict::Refused(Refusal::ShortOutput),
-            line: 0,
+            answer: Err(Refused {
+                why: Refusal::ShortOutput,
+                line: 0,
+            }),
             length: 0,
         };
     }
-    let seen = look_at(input);
-    match seen {
-        Look::Refuses(why) => refuse(why, 0, out),
-        Look::Asks(question) => {
-            let trace = line_length(input) + 1;
-            let read = text::read(&input[trace..], clocks, held, order);
-            answer_read(question, read, clocks, held, order, out)
-        }
+    match answer(input, buffers, out) {
+        Ok(length) => Reported {
+            answer: Ok(()),
+            length,
+        },
+        Err(refused) => Reported {
+            answer: Err(refused),
+            length: write_refusal(refused, out),
+        },
     }
 }

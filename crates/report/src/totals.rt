@@ -1,53 +1,27 @@
 // The counts of all intervals of a sound store, and their sum.
-ghost use Rattle.std.specs.Prelude.{◌≡◌, false, ◌≤◌, length};
-ghost use Rattle.cuts.specs.Outcomes.{SoundTrace};
-ghost use Rattle.report.specs.Report.{CountedAll, ForTrace};
+ghost use Rattle.std.specs.Prelude.{List, ℕ, ◌≤◌, length, is_some, unwrap_or};
+ghost use Rattle.cuts.specs.Ranges.{with_held};
+ghost use Rattle.report.specs.Report.{CountedAll};
 
-use cuts::inner::count_interval_with;
-use model::{Position, Record, Verdict};
+use cuts::inner::{Sound, count_interval_with};
+use model::Position;
 use steps::spans::tally_next;
 
-// The sum, where it fits 64 bits.
-#[derive(Clone, Copy)]
-pub(crate) struct Totals {
-    pub fits: bool,
-    pub sum: u64,
-}
-
-fn too_large() -> Totals
-    ensures { (result.fits ≡ false) × (result.sum ≡ 0) }
-{
-    Totals {
-        fits: false,
-        sum: 0,
-    }
-}
-
-// The store is not tested here: its caller knows it to be sound. The tallies go along from interval to interval, so that no
-// interval's Gbnd is counted anew.
-pub(crate) fn count_all(record: Record, clocks: &[u8], order: &[u8], counts: &mut [u64]) -> Totals
-    requires { SoundTrace «record» clocks.now order.now × (2033 ≤ length counts.old) }
-    ensures { ForTrace «record» clocks.now order.now (λ s. CountedAll s result.fits result.sum counts.new) }
+// The sum, where it fits 64 bits. The store is not tested here: its type says that it is sound. The tallies go along from
+// interval to interval, so that no interval's Gbnd is counted anew.
+pub(crate) fn count_all(trace: Sound, counts: &mut [u64]) -> Option<u64>
+    requires { 2033 ≤ length counts.old }
+    ensures { (held : List ℕ) → CountedAll (with_held trace.entry held) (is_some result) (unwrap_or result 0) counts.new }
 {
     let mut tallies = [0u8; 8];
     let mut sum: u64 = 0;
-    let mut p: u16 = 0;
-    while p <= record.events {
-        let counted = count_interval_with(record, clocks, order, Position(p), tallies);
-        let verdict = counted.verdict;
-        let Verdict::Passed = verdict else {
-            return too_large();
-        };
-        let count = counted.count;
-        if 18446744073709551615 - sum < count {
-            return too_large();
-        }
-        sum += count;
+    for p in 0..=trace.record.events {
+        let count = count_interval_with(trace, Position(p), tallies).ok()?;
+        sum = sum.checked_add(count)?;
         counts[p as usize] = count;
-        if p < record.events {
-            tally_next(order, Position(p), &mut tallies);
+        if p < trace.record.events {
+            tally_next(trace.order, Position(p), &mut tallies);
         }
-        p += 1;
     }
-    Totals { fits: true, sum }
+    Some(sum)
 }

@@ -25,8 +25,7 @@ use Rattle.store.proofs.Ready.{tested_sound}
 use Rattle.store.proofs.Outcomes.{append_passed}
 use Rattle.store.proofs.Theorems.{sound_limits}
 use Rattle.store.proofs.Replay.{stored, one_event, nothing_yet, stored_follows, stored_long, may, next_ready, agree_next}
-use Rattle.lines.specs.declared.numbers.Number.TheVariants.{Value}
-use Rattle.lines.specs.declared.lists.Listed.{Listed}
+use Rattle.std.specs.Prelude.{Some, Ok}
 use Rattle.lines.specs.Numbers.{decimal, number}
 use Rattle.lines.specs.Find.{find, first_line, rest_lines, starts_with, value_behind}
 use Rattle.lines.specs.Lists.{comma_list, more_entries, listed}
@@ -70,7 +69,7 @@ module _ (key : List ℕ) (free : find 10 key ≡ length key) (v : ℕ) (rest : 
   key_first : first_line (key_line key v ++ rest) ≡ line
   key_first = ap first_line (key_line_then key v rest) ∙ first_line_lem line rest lacks
 
-  pub number_read : (limit : ℕ) → v ≤ limit → number_line key limit (key_line key v ++ rest) ≡ Value v
+  pub number_read : (limit : ℕ) → v ≤ limit → number_line key limit (key_line key v ++ rest) ≡ Some v
   unfolding number_line
   number_read limit h =
       ap (λ (l : List ℕ). number limit (value_behind key l)) key_first
@@ -113,7 +112,7 @@ module _ (vs rest : List ℕ) where
       ap line_bytes (clock_text_then vs rest) ∙ ap (λ (k : ℕ). k + 1) (line_length_lem list rest list_free)
       ∙ sym (ap length (sym (append_assoc clock_key (comma_list vs) (10 ∷ []))) ∙ length-append list (10 ∷ []))
 
-listed_take : (n : ℕ) (l : List ℕ) → 1 ≤ n → n ≤ 8 → n ≤ length l → ((i : ℕ) → i < n → get_or l i 0 ≤ 255) → listed n (comma_list (take n l)) ≡ record { fits = true; values = eight (at (take n l)) }
+listed_take : (n : ℕ) (l : List ℕ) → 1 ≤ n → n ≤ 8 → n ≤ length l → ((i : ℕ) → i < n → get_or l i 0 ≤ 255) → listed n (comma_list (take n l)) ≡ Some (eight (at (take n l)))
 listed_take zero l some most long h = let no : ⊥ = omega arith in absurd no
 listed_take (suc n) [] some most long h = let no : ⊥ = omega arith in absurd no
 listed_take (suc n) (x ∷ xs) some most long h =
@@ -163,7 +162,7 @@ module _ (s : Store) (none : store_refusal s ≡ 0) (fits : (q : ℕ) → q < s.
     abbrev before_held : ℕ
     before_held = length (key_line tablet_key (get_or s.order q 0)) + length (list_line clock_key (take n clock))
 
-    pub event_read : (rest : List ℕ) → event_lines n (event_text s q ++ rest) ≡ record { fault = 0; before = before_held; used = length (event_text s q); event = stored s q }
+    pub event_read : (rest : List ℕ) → event_lines n (event_text s q ++ rest) ≡ Ok (record { before = before_held; used = length (event_text s q); event = stored s q })
     unfolding event_text
     event_read rest =
         let one = key_line tablet_key (get_or s.order q 0) in
@@ -173,18 +172,17 @@ module _ (s : Store) (none : store_refusal s ≡ 0) (fits : (q : ℕ) → q < s.
         let text = one ++ (two ++ (three ++ rest)) in
         let second : rest_lines text ≡ two ++ (three ++ rest) = number_rest tablet_key refl (get_or s.order q 0) (two ++ (three ++ rest)) in
         let third : rest_lines (rest_lines text) ≡ three ++ rest = ap rest_lines second ∙ clock_rest (take n clock) (three ++ rest) in
-        let entries : clock_line n (rest_lines text) ≡ record { fits = true; values = eight (at (take n clock)) } = ap (clock_line n) second ∙ clock_read (take n clock) (three ++ rest) n ∙ listed_take n clock snd.some snd.narrow (omega (arith, long, snd.narrow)) (λ i h. entry_low i (omega (arith, snd.narrow))) in
-        let said = event_said n text (get_or s.order q 0) (held_of s name)
+        let entries : clock_line n (rest_lines text) ≡ Some clock = ap (clock_line n) second ∙ clock_read (take n clock) (three ++ rest) n ∙ listed_take n clock snd.some snd.narrow (omega (arith, long, snd.narrow)) (λ i h. entry_low i (omega (arith, snd.narrow))) ∙ ap Some all_entries in
+        let said = event_said n text (get_or s.order q 0) clock (held_of s name)
         (number_read tablet_key refl (get_or s.order q 0) (two ++ (three ++ rest)) 255 (omega (arith, follows.listed, snd.narrow)))
-        (ap (λ (l : Listed). l.fits) entries)
+        entries
         (ap (number_line held_key 65535) third ∙ number_read held_key refl (held_of s name) rest 65535 (fits q inside)) in
-        let values : (clock_line n (rest_lines text)).values ≡ clock = ap (λ (l : Listed). l.values) entries ∙ all_entries in
         let before : line_bytes text + line_bytes (rest_lines text) ≡ before_held =
         omega (arith, number_bytes tablet_key refl (get_or s.order q 0) (two ++ (three ++ rest)), ap line_bytes second ∙ clock_bytes (take n clock) (three ++ rest)) in
         let bytes : line_bytes text + line_bytes (rest_lines text) + line_bytes (rest_lines (rest_lines text)) ≡ length (one ++ (two ++ three)) =
         omega (arith, before, ap line_bytes third ∙ number_bytes held_key refl (held_of s name) rest, length-append one (two ++ three), length-append two three) in
         ap (event_lines n) parts ∙ said
-        ∙ (λ i. record { fault = 0; before = before i; used = bytes i; event = record { tablet = record { 0 = get_or s.order q 0 }; clock = values i; held = held_of s name } })
+        ∙ (λ i. Ok (record { before = before i; used = bytes i; event = record { tablet = record { 0 = get_or s.order q 0 }; clock = clock; held = held_of s name } }))
 
     pub event_goes_on : (rest : List ℕ) → ends_here (event_text s q ++ rest) ≡ false
     unfolding event_text ends_here
@@ -198,9 +196,9 @@ module _ (s : Store) (none : store_refusal s ≡ 0) (fits : (q : ℕ) → q < s.
   module _ (q : ℕ) (inside : q < s.events) (r : Store) (ready : store_refusal r ≡ 0) (at-q : r.events ≡ q) (agree : AgreeTo q s r) where
     pub turn_is : (rest : List ℕ) → turn r (event_text s q ++ rest) ≡ record { refusal = 0; line = 2; used = length (event_text s q); store = accepted r (stored s q) }
     turn_is rest =
-        let e : EventLines = record { fault = 0; before = before_held q inside; used = length (event_text s q); event = stored s q } in
-        let said : e ≡ event_lines r.tablets (event_text s q ++ rest) = sym (event_read q inside rest) ∙ ap (λ (k : ℕ). event_lines k (event_text s q ++ rest)) agree.tablets in
-        turn_offered r (event_text s q ++ rest) e said refl
+        let e : EventLines = record { before = before_held q inside; used = length (event_text s q); event = stored s q } in
+        let said : event_lines r.tablets (event_text s q ++ rest) ≡ Ok e = ap (λ (k : ℕ). event_lines k (event_text s q ++ rest)) (sym agree.tablets) ∙ event_read q inside rest in
+        turn_offered r (event_text s q ++ rest) e said
         ∙ ap (λ (o : Outcome). record { refusal = o.refusal; line = 2; used = length (event_text s q); store = o.store }) (append_passed r (stored s q) (may s none q inside r ready at-q agree))
 
   -- the text from a position on
@@ -217,7 +215,7 @@ module _ (s : Store) (none : store_refusal s ≡ 0) (fits : (q : ℕ) → q < s.
       let whole : text ++ [] ≡ text = append-nil text in
       let few = (sound_limits r ready).0 in
       let here : ends_here text ≡ true = ap (λ (l : List ℕ). starts_with events_key (first_line l)) (sym whole) ∙ key_starts events_key refl s.events [] events_key ∙ starts_key events_key (decimal s.events) in
-      let is : number_line events_key 65535 text ≡ Value s.events = ap (number_line events_key 65535) (sym whole) ∙ number_read events_key refl s.events [] 65535 (omega arith) in
+      let is : number_line events_key 65535 text ≡ Some s.events = ap (number_line events_key 65535) (sym whole) ∙ number_read events_key refl s.events [] 65535 (omega arith) in
       let bytes : line_bytes text ≡ length text = ap line_bytes (sym whole) ∙ number_bytes events_key refl s.events [] in
       let e = step_end r line text few here ∙ ending_done r line text s.events is (sym all) (omega arith) in
       subst ReadsTo (sym e) (record { passed = refl; line = refl; events = all; agree = agree })
@@ -246,7 +244,7 @@ module _ (s : Store) (none : store_refusal s ≡ 0) (fits : (q : ℕ) → q < s.
         let width = record_passes (fresh_record n) (some_tablets n snd.some snd.narrow) in
         let rest = pieces_from s s.events 0 in
         let whole = text_from s in
-        let is : number_line tablets_key 255 (text_of s) ≡ Value n = ap (number_line tablets_key 255) whole ∙ number_read tablets_key refl n rest 255 (omega (arith, snd.narrow)) in
+        let is : number_line tablets_key 255 (text_of s) ≡ Some n = ap (number_line tablets_key 255) whole ∙ number_read tablets_key refl n rest 255 (omega (arith, snd.narrow)) in
         let after : rest_lines (text_of s) ≡ rest = ap rest_lines whole ∙ number_rest tablets_key refl n rest in
         let e = reading_goes (text_of s) clocks held order full n is width ∙ ap (read_on fresh 2) after in
         subst ReadsTo (sym e)

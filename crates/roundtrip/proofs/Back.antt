@@ -24,8 +24,7 @@ use Rattle.model.proofs.Agree.{event_same, agree_self}
 use Rattle.model.proofs.Accepted.{room_for_one, accepted_agrees, event_written, clock_stored, held_stored, still_contained}
 use Rattle.store.proofs.Ready.{tested_sound, tested_full}
 use Rattle.store.proofs.Theorems.{accepted_stays_sound}
-use Rattle.lines.specs.declared.numbers.Number.{Number}
-use Rattle.lines.specs.declared.numbers.Number.TheVariants.{Value, Faulty}
+use Rattle.std.specs.Prelude.{Option, Some, None, Ok}
 use Rattle.lines.specs.Numbers.{decimal}
 use Rattle.lines.specs.Find.{first_line, rest_lines, value_behind}
 use Rattle.lines.specs.Lists.{comma_list}
@@ -59,7 +58,7 @@ pub clock_text_then : (vs rest : List ℕ) → list_line clock_key vs ++ rest �
 unfolding list_line
 clock_text_then vs rest = line_then clock_key (comma_list vs) rest
 
-pub number_line_back : (key : List ℕ) (limit : ℕ) (text : List ℕ) (v : ℕ) → number_line key limit text ≡ Value v → text ≡ key_line key v ++ rest_lines text
+pub number_line_back : (key : List ℕ) (limit : ℕ) (text : List ℕ) (v : ℕ) → number_line key limit text ≡ Some v → text ≡ key_line key v ++ rest_lines text
 unfolding number_line
 number_line_back key limit text v is =
     let value = value_behind key (first_line text) in
@@ -68,24 +67,24 @@ number_line_back key limit text v is =
     ∙ ap (λ (l : List ℕ). l ++ (10 ∷ rest_lines text)) (sym (line_keyed key (first_line text) filled) ∙ ap (λ (l : List ℕ). key ++ l) (number_back limit value v is))
     ∙ sym (key_line_then key v (rest_lines text))
 
-pub record ClockBack (n : ℕ) (text : List ℕ) : Type 0 where
+pub record ClockBack (n : ℕ) (text clock : List ℕ) : Type 0 where
   pub entries : List ℕ
   pub long : length entries ≡ n
   pub most : n ≤ 8
-  pub values : (clock_line n text).values ≡ eight (at entries)
+  pub values : clock ≡ eight (at entries)
   pub bytes : text ≡ list_line clock_key entries ++ rest_lines text
 
-pub clock_line_back : (n : ℕ) (text : List ℕ) → (clock_line n text).fits ≡ true → ClockBack n text
+pub clock_line_back : (n : ℕ) (text clock : List ℕ) → clock_line n text ≡ Some clock → ClockBack n text clock
 unfolding clock_line
-clock_line_back n text is =
+clock_line_back n text clock is =
     let value = value_behind clock_key (first_line text) in
-    let l = listed_back n value is in
+    let l = listed_back n value clock is in
     let filled = back_filled n value l.listed_values l.back in
     record {
       entries = l.listed_values;
       long = l.back.long;
       most = l.most;
-      values = l.values;
+      values = l.values_are;
       bytes = sym (line_parted text (value_some clock_key (first_line text) filled))
           ∙ ap (λ (x : List ℕ). x ++ (10 ∷ rest_lines text)) (sym (line_keyed clock_key (first_line text) filled) ∙ ap (λ (x : List ℕ). clock_key ++ x) l.back.bytes)
           ∙ sym (clock_text_then l.listed_values (rest_lines text));
@@ -106,33 +105,35 @@ module _ (n : ℕ) (text : List ℕ) (b : EventBack n text) where
   abbrev third : List ℕ
   third = rest_lines (rest_lines text)
 
-  clock : ClockBack n second
-  clock = clock_line_back n second b.clock_fits
+  read_clock : ClockBack n second b.clock
+  read_clock = clock_line_back n second b.clock b.clock_is
 
-  abbrev event : Event
-  event = record { tablet = record { 0 = b.tablet }; clock = (clock_line n second).values; held = b.held }
+  pub event_long : length b.clock ≡ 8
+  event_long = ap length read_clock.values ∙ length_eight (at read_clock.entries)
 
-  pub event_long : length (clock_line n second).values ≡ 8
-  event_long = ap length clock.values ∙ length_eight (at clock.entries)
-
-  pub lines_back : text ≡ (key_line tablet_key b.tablet ++ (list_line clock_key (take n (clock_line n second).values) ++ key_line held_key b.held)) ++ rest_lines third
+  pub lines_back : text ≡ (key_line tablet_key b.tablet ++ (list_line clock_key (take n b.clock) ++ key_line held_key b.held)) ++ rest_lines third
   lines_back =
-      let entries : take n (clock_line n second).values ≡ clock.entries = ap (take n) clock.values ∙ first_entries n clock.entries clock.long clock.most in
+      let c = read_clock in
+      let entries : take n b.clock ≡ c.entries = ap (take n) c.values ∙ first_entries n c.entries c.long c.most in
       let one = key_line tablet_key b.tablet in
-      let two = list_line clock_key clock.entries in
+      let two = list_line clock_key c.entries in
       let three = key_line held_key b.held in
       number_line_back tablet_key 255 text b.tablet b.tablet_is
-      ∙ ap (λ (l : List ℕ). one ++ l) (clock.bytes ∙ ap (λ (l : List ℕ). two ++ l) (number_line_back held_key 65535 third b.held b.held_is))
+      ∙ ap (λ (l : List ℕ). one ++ l) (c.bytes ∙ ap (λ (l : List ℕ). two ++ l) (number_line_back held_key 65535 third b.held b.held_is))
       ∙ ap (λ (l : List ℕ). one ++ l) (sym (append_assoc two three (rest_lines third)))
       ∙ sym (append_assoc one (two ++ three) (rest_lines third))
       ∙ ap (λ (l : List ℕ). (one ++ (list_line clock_key l ++ three)) ++ rest_lines third) (sym entries)
 
-  pub rest_back : drop (event_lines n text).used text ≡ rest_lines third
-  rest_back =
-      let used = ap (λ (l : EventLines). l.used) b.is in
-      ap (λ (k : ℕ). drop k text) used
-      ∙ sym (drop-drop (line_bytes third) (line_bytes text + line_bytes second) text)
-      ∙ ap (drop (line_bytes third)) (sym (drop-drop (line_bytes second) (line_bytes text) text))
+  -- the same of the lines that are known to give it
+  module _ (e : EventLines) (is : event_lines n text ≡ Ok e) where
+    pub lines_are : e ≡ record { before = line_bytes text + line_bytes second; used = line_bytes text + line_bytes second + line_bytes third; event = record { tablet = record { 0 = b.tablet }; clock = b.clock; held = b.held } }
+    lines_are = cc (is, b.is)
+
+    pub rest_back : drop e.used text ≡ rest_lines third
+    rest_back =
+        ap (λ (l : EventLines). drop l.used text) lines_are
+        ∙ sym (drop-drop (line_bytes third) (line_bytes text + line_bytes second) text)
+        ∙ ap (drop (line_bytes third)) (sym (drop-drop (line_bytes second) (line_bytes text) text))
 
 -- the pieces from a position on
 
@@ -175,7 +176,7 @@ module _ (s : Store) (line : ℕ) (text : List ℕ) (none : (ending s line text)
   never : (k l : ℕ) → 1 ≤ k → ending s line text ≡ refused k l s → ⊥
   never k l some e = omega (arith, ap (λ (o : ReadOutcome). o.refusal) e)
 
-  by_rest : (v : ℕ) → number_line events_key 65535 text ≡ Value v → v ≡ s.events → Dec (line_bytes text < length text) → ((ending s line text).store ≡ s) × (text ≡ key_line events_key s.events)
+  by_rest : (v : ℕ) → number_line events_key 65535 text ≡ Some v → v ≡ s.events → Dec (line_bytes text < length text) → ((ending s line text).store ≡ s) × (text ≡ key_line events_key s.events)
   by_rest v is same (yes more) = absurd (never 12 (line + 1) (omega arith) (ending_more s line text v is same more))
   by_rest v is same (no all) =
       let end : length text ≤ line_bytes text = omega arith in (
@@ -186,13 +187,13 @@ module _ (s : Store) (line : ℕ) (text : List ℕ) (none : (ending s line text)
             ∙ ap (key_line events_key) same,
       )
 
-  by_count : (v : ℕ) → number_line events_key 65535 text ≡ Value v → Dec (v ≡ s.events) → ((ending s line text).store ≡ s) × (text ≡ key_line events_key s.events)
+  by_count : (v : ℕ) → number_line events_key 65535 text ≡ Some v → Dec (v ≡ s.events) → ((ending s line text).store ≡ s) × (text ≡ key_line events_key s.events)
   by_count v is (yes same) = by_rest v is same (dec_lt (line_bytes text) (length text))
   by_count v is (no other) = absurd (never 12 line (omega arith) (ending_other s line text v is other))
 
-  by_number : (x : Number) → number_line events_key 65535 text ≡ x → ((ending s line text).store ≡ s) × (text ≡ key_line events_key s.events)
-  by_number (Value v) is = by_count v is (ℕ_discrete v s.events)
-  by_number Faulty is = absurd (never 12 line (omega arith) (ending_fault s line text is))
+  by_number : (x : Option ℕ) → number_line events_key 65535 text ≡ x → ((ending s line text).store ≡ s) × (text ≡ key_line events_key s.events)
+  by_number (Some v) is = by_count v is (ℕ_discrete v s.events)
+  by_number None is = absurd (never 12 line (omega arith) (ending_fault s line text is))
 
   ending_back : ((ending s line text).store ≡ s) × (text ≡ key_line events_key s.events)
   ending_back = by_number (number_line events_key 65535 text) refl
@@ -224,16 +225,19 @@ module _ (r : Store) (none : store_refusal r ≡ 0) (text : List ℕ) (p : TurnP
   n = r.tablets
 
   abbrev e : Event
-  e = (event_lines n text).event
+  e = p.lines.event
 
   b : EventBack n text
-  b = event_back n text p.whole
+  b = event_back n text p.lines p.whole
 
   abbrev rest : List ℕ
-  rest = drop (event_lines n text).used text
+  rest = drop p.lines.used text
+
+  same : p.lines ≡ record { before = line_bytes text + line_bytes (rest_lines text); used = line_bytes text + line_bytes (rest_lines text) + line_bytes (rest_lines (rest_lines text)); event = record { tablet = record { 0 = b.tablet }; clock = b.clock; held = b.held } }
+  same = lines_are n text b p.lines p.whole
 
   long : length e.clock ≡ 8
-  long = ap (λ (l : EventLines). length l.event.clock) b.is ∙ event_long n text b
+  long = ap (λ (l : EventLines). length l.event.clock) same ∙ event_long n text b
 
   pub next_sound : store_refusal (accepted r e) ≡ 0
   next_sound = accepted_stays_sound r e long none p.may
@@ -241,8 +245,8 @@ module _ (r : Store) (none : store_refusal r ≡ 0) (text : List ℕ) (p : TurnP
   read_lines : text ≡ event_text (accepted r e) r.events ++ rest
   read_lines =
       lines_back n text b
-      ∙ ap (λ (l : List ℕ). (key_line tablet_key b.tablet ++ (list_line clock_key (take n (clock_line n (rest_lines text)).values) ++ key_line held_key b.held)) ++ l) (sym (rest_back n text b))
-      ∙ ap (λ (l : EventLines). (key_line tablet_key l.event.tablet.0 ++ (list_line clock_key (take n l.event.clock) ++ key_line held_key l.event.held)) ++ rest) (sym b.is)
+      ∙ ap (λ (l : List ℕ). (key_line tablet_key b.tablet ++ (list_line clock_key (take n b.clock) ++ key_line held_key b.held)) ++ l) (sym (rest_back n text b p.lines p.whole))
+      ∙ ap (λ (l : EventLines). (key_line tablet_key l.event.tablet.0 ++ (list_line clock_key (take n l.event.clock) ++ key_line held_key l.event.held)) ++ rest) (sym same)
       ∙ ap (λ (l : List ℕ). l ++ rest) (sym (accepted_text r e none long p.may))
 
   one_later : (accepted r e).events ≡ suc r.events
@@ -293,7 +297,7 @@ read_back_from (suc turns) r line text none passed =
     by_line false true t z again =
         let p = turn_passed r text (eqb-true (turn r text).refusal 0 t) in
         event_before r none text p _
-        (subst (λ (s : Store). ReadBack s (drop (event_lines r.tablets text).used text) (read_from turns (turn r text).store (line + 3) (drop (turn r text).used text)).store) p.stored
+        (subst (λ (s : Store). ReadBack s (drop p.lines.used text) (read_from turns (turn r text).store (line + 3) (drop (turn r text).used text)).store) p.stored
         (subst (λ (k : ℕ). ReadBack (turn r text).store (drop k text) (read_from turns (turn r text).store (line + 3) (drop (turn r text).used text)).store) p.used
         (again (turn r text).store (line + 3) (drop (turn r text).used text) (ap store_refusal p.stored ∙ next_sound r none text p) z)))
     by_line false false t z again = absurd (eqb-false (turn r text).refusal 0 t z)
@@ -306,7 +310,7 @@ module _ (text clocks held order : List ℕ) (passed : (reading text clocks held
   not_refused : (k l : ℕ) (s : Store) → 1 ≤ k → reading text clocks held order ≡ refused k l s → ⊥
   not_refused k l s some is = omega (arith, ap (λ (o : ReadOutcome). o.refusal) is)
 
-  by_fresh : (n : ℕ) → number_line tablets_key 255 text ≡ Value n → (o : ReadOutcome) → o.refusal ≡ 0 → ReadBack (store_of (fresh_record n) clocks held order) (rest_lines text) o.store → (store_refusal o.store ≡ 0) × (text_of o.store ≡ text)
+  by_fresh : (n : ℕ) → number_line tablets_key 255 text ≡ Some n → (o : ReadOutcome) → o.refusal ≡ 0 → ReadBack (store_of (fresh_record n) clocks held order) (rest_lines text) o.store → (store_refusal o.store ≡ 0) × (text_of o.store ≡ text)
   by_fresh n is o z back =
       let all : back.left ≡ o.store.events = omega (arith, back.total) in (
         back.sound,
@@ -316,7 +320,7 @@ module _ (text clocks held order : List ℕ) (passed : (reading text clocks held
             ∙ sym (number_line_back tablets_key 255 text n is),
       )
 
-  by_record : (n : ℕ) → number_line tablets_key 255 text ≡ Value n → full_sizes clocks held order ≡ true → (store_refusal f ≡ 0) × (text_of f ≡ text)
+  by_record : (n : ℕ) → number_line tablets_key 255 text ≡ Some n → full_sizes clocks held order ≡ true → (store_refusal f ≡ 0) × (text_of f ≡ text)
   unfolding read_on
   by_record n is full =
       by_cases (dec_le 1 (record_refusal (fresh_record n)))
@@ -328,9 +332,9 @@ module _ (text clocks held order : List ℕ) (passed : (reading text clocks held
       (by_fresh n is (read_on (store_of (fresh_record n) clocks held order) 2 (rest_lines text)) z
       (read_back_from (2033 - 0) (store_of (fresh_record n) clocks held order) 2 (rest_lines text) (fresh_store clocks held order n fits full).refusal z)))
 
-  by_tablets : (x : Number) → number_line tablets_key 255 text ≡ x → full_sizes clocks held order ≡ true → (store_refusal f ≡ 0) × (text_of f ≡ text)
-  by_tablets (Value n) is full = by_record n is full
-  by_tablets Faulty is full = absurd (not_refused 12 1 _ (omega arith) (reading_faulty text clocks held order full is))
+  by_tablets : (x : Option ℕ) → number_line tablets_key 255 text ≡ x → full_sizes clocks held order ≡ true → (store_refusal f ≡ 0) × (text_of f ≡ text)
+  by_tablets (Some n) is full = by_record n is full
+  by_tablets None is full = absurd (not_refused 12 1 _ (omega arith) (reading_faulty text clocks held order full is))
 
   by_sizes : (b : Bool) → full_sizes clocks held order ≡ b → (store_refusal f ≡ 0) × (text_of f ≡ text)
   by_sizes true full = by_tablets (number_line tablets_key 255 text) refl full

@@ -3,13 +3,14 @@ use mathlib.Core.Path.{◌≡◌, sym, ap, ◌∙◌, subst}
 use mathlib.Core.Bool.{true}
 use mathlib.Core.List.{List}
 use Prim.Native.Nat.{ℕ, ◌≤◌, ◌<◌}
+use native.Mathlib.Omega.{arith}
 use Rattle.model.specs.Follow.{event_at}
-use Rattle.model.specs.declared.Verdict.TheVariants.{Passed}
-use Rattle.model.specs.Refusals.{verdict_number}
+use Rattle.std.specs.Prelude.{Result, Ok, Err, IsOkAnd}
+use Rattle.model.specs.declared.Record.{Record}
 use Rattle.model.specs.Store.{Store, store_of, full_sizes, held_of, store_refusal}
 use Rattle.model.specs.Agree.{AgreeTo}
-use Rattle.model.proofs.Refusals.{verdict_unique}
-use Rattle.text.specs.declared.reading.ReadAnswer.{ReadAnswer}
+use Rattle.model.proofs.Refusals.{number_positive}
+use Rattle.text.specs.declared.reading.ReadRefusal.{ReadRefusal}
 use Rattle.text.specs.Reading.{ReadOutcome, read_outcome, reading}
 use Rattle.writer.specs.Writing.{text_of}
 use Rattle.roundtrip.specs.Calls.{Written, joined}
@@ -34,17 +35,21 @@ pub pieces_join : (s : Store) (w : Written s) → joined s w ≡ text_of s
 pieces_join s w = joined_text s w
 
 -- Reading what those calls wrote gives the same events back: a call of `read`, with its answer and buffers at exit, passes.
-pub calls_read_back : (s : Store) → store_refusal s ≡ 0 → ((q : ℕ) → q < s.events → held_of s (event_at s.order q) ≤ 65535) → (w : Written s) → (clocks held order : List ℕ) → full_sizes clocks held order ≡ true → (r : ReadAnswer) (c h o : List ℕ) → read_outcome r c h o ≡ reading (joined s w) clocks held order → (r.verdict ≡ Passed) × (r.«record».events ≡ s.events) × AgreeTo s.events s (store_of r.«record» c h o)
+pub calls_read_back : (s : Store) → store_refusal s ≡ 0 → ((q : ℕ) → q < s.events → held_of s (event_at s.order q) ≤ 65535) → (w : Written s) → (clocks held order : List ℕ) → full_sizes clocks held order ≡ true → (r : Result Record ReadRefusal) (c h o : List ℕ) → read_outcome r c h o ≡ reading (joined s w) clocks held order → IsOkAnd r (λ q. (q.events ≡ s.events) × AgreeTo s.events s (store_of q c h o))
 calls_read_back s sound fits w clocks held order full r c h o met =
     let is : read_outcome r c h o ≡ reading (text_of s) clocks held order = met ∙ ap (λ (text : List ℕ). reading text clocks held order) (pieces_join s w) in
-    let back = subst (λ (x : ReadOutcome). (x.refusal ≡ 0) × (x.store.events ≡ s.events) × AgreeTo s.events s x.store) (sym is) (written_reads_back s sound fits clocks held order full) in
-    (verdict_unique r.verdict Passed back.0, back.1, back.2)
+    by_answer r (subst (λ (x : ReadOutcome). (x.refusal ≡ 0) × (x.store.events ≡ s.events) × AgreeTo s.events s x.store) (sym is) (written_reads_back s sound fits clocks held order full))
+  where
+    by_answer : (x : Result Record ReadRefusal) → ((read_outcome x c h o).refusal ≡ 0) × ((read_outcome x c h o).store.events ≡ s.events) × AgreeTo s.events s (read_outcome x c h o).store → IsOkAnd x (λ q. (q.events ≡ s.events) × AgreeTo s.events s (store_of q c h o))
+    by_answer (Ok q) back = (back.1, back.2)
+    by_answer (Err e) back = let no : ⊥ = omega (arith, number_positive e.why, back.0) in absurd no
 
 -- Writing out the store that an accepted text left gives that text.
-pub calls_write_back : (text clocks held order : List ℕ) (r : ReadAnswer) (c h o : List ℕ) → read_outcome r c h o ≡ reading text clocks held order → r.verdict ≡ Passed → (w : Written (store_of r.«record» c h o)) → joined (store_of r.«record» c h o) w ≡ text
-calls_write_back text clocks held order r c h o met passed w =
-    let none = sym (ap (λ (x : ReadOutcome). x.refusal) met) ∙ ap verdict_number passed in
-    pieces_join (store_of r.«record» c h o) w ∙ ap (λ (x : ReadOutcome). text_of x.store) met ∙ (read_writes_back text clocks held order none).1
+pub calls_write_back : (text clocks held order : List ℕ) (r : Result Record ReadRefusal) (c h o : List ℕ) → read_outcome r c h o ≡ reading text clocks held order → (q : Record) → r ≡ Ok q → (w : Written (store_of q c h o)) → joined (store_of q c h o) w ≡ text
+calls_write_back text clocks held order r c h o met q passed w =
+    let is : read_outcome (Ok q) c h o ≡ reading text clocks held order = ap (λ (x : Result Record ReadRefusal). read_outcome x c h o) (sym passed) ∙ met in
+    let none = sym (ap (λ (x : ReadOutcome). x.refusal) is) in
+    pieces_join (store_of q c h o) w ∙ ap (λ (x : ReadOutcome). text_of x.store) is ∙ (read_writes_back text clocks held order none).1
 
 -- That every text is accepted or refused with exactly one number and line needs no theorem: `reading` is a function of the
 -- text and the buffers, and `read_unique` says that the call's contract leaves no second answer.

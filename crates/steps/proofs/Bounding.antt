@@ -1,12 +1,11 @@
 -- Gmin and Gbnd as the code reads them; and what a sound store gives to read them by.
 use mathlib.Core.Path.{◌≡◌, refl, sym, ap, ap₂, ◌∙◌, subst₂}
 use mathlib.Core.List.{List}
-use Prim.Native.Nat.{ℕ, suc, ◌+◌, ◌-◌, ◌*◌, ◌≤◌, ◌<◌}
+use Prim.Native.Nat.{ℕ, suc, ◌+◌, ◌-◌, ◌≤◌, ◌<◌}
 use native.Mathlib.Omega.{arith}
 use lib.ListN.{length, get_or}
 use Rattle.model.specs.Lists.{at, zeros}
-use Rattle.model.specs.Numbers.{slot}
-use Rattle.model.specs.Clocks.{clock_in, clock_at}
+use Rattle.model.specs.Clocks.{clock_at}
 use Rattle.model.specs.Follow.{column_at, tally, tallies}
 use Rattle.model.specs.Store.{Store, clocks_of, tallies_of, store_refusal}
 use Rattle.model.specs.Cuts.{cuts_between, gmin, gbnd, interval, all_cuts}
@@ -15,7 +14,7 @@ use Rattle.model.proofs.Total.{tally_bounded, tally_above}
 use Rattle.model.proofs.Sound.{Sound, Full, follows_at}
 use Rattle.model.proofs.Bounds.{Bounds, gmin_long, interval_bounds, whole_bounds, whole_range}
 use Rattle.store.proofs.Ready.{tested_sound, tested_full}
-use Rattle.steps.specs.Spans.{Countable, IntervalReady}
+use Rattle.steps.specs.Spans.{Countable}
 use Rattle.steps.specs.Walk.{Span}
 
 -- what can be counted up to a position can be counted up to each before it
@@ -29,15 +28,15 @@ countable_part c q h =
     }
 
 -- the event at position p: its tablet's column, and its number there by the tallies after it
-module _ (clocks order : List ℕ) (p : ℕ) (ready : IntervalReady clocks order p) (some : 1 ≤ p) where
+module _ (order : List ℕ) (p : ℕ) (ready : Countable order p) (some : 1 ≤ p) where
   abbrev own : ℕ
   own = get_or order (p - 1) 0 - 1
 
   pub byte_positive : 1 ≤ get_or order (p - 1) 0
-  byte_positive = ready.countable.positive (p - 1) (omega arith)
+  byte_positive = ready.positive (p - 1) (omega arith)
 
   pub own_fits : own < 8
-  own_fits = omega (arith, byte_positive, ready.countable.listed (p - 1) (omega arith))
+  own_fits = omega (arith, byte_positive, ready.listed (p - 1) (omega arith))
 
   count_is : at (tallies order p) own ≡ tally order (p - 1) own + 1
   count_is =
@@ -49,20 +48,16 @@ module _ (clocks order : List ℕ) (p : ℕ) (ready : IntervalReady clocks order
   count_low = omega (arith, count_is)
 
   pub count_high : at (tallies order p) own ≤ 254
-  count_high = omega (arith, at_tallies order p own own_fits, ready.countable.bounded p own (omega arith))
-
-  pub slot_inside : 8 * slot own (at (tallies order p) own) + 8 ≤ length clocks
-  unfolding slot
-  slot_inside = omega (arith, own_fits, count_low, count_high, ready.full)
+  count_high = omega (arith, at_tallies order p own own_fits, ready.bounded p own (omega arith))
 
   gmin_at : (s : Store) (q : ℕ) → p ≡ suc q → gmin s p ≡ clock_at s.clocks (column_at s.order (p - 1)) (tally s.order (p - 1) (column_at s.order (p - 1)) + 1)
   gmin_at s q e =
       let down : q ≡ p - 1 = omega arith in
       ap (gmin s) e ∙ ap (λ (r : ℕ). clock_at s.clocks (column_at s.order r) (tally s.order r (column_at s.order r) + 1)) down
 
-  pub gmin_read : (s : Store) → s.clocks ≡ clocks → s.order ≡ order → clock_in clocks (slot own (at (tallies order p) own)) ≡ gmin s p
-  gmin_read s c o =
-      ap (λ (k : ℕ). clock_in clocks (slot own k)) count_is
+  pub gmin_read : (clocks : List ℕ) (s : Store) → s.clocks ≡ clocks → s.order ≡ order → clock_at clocks own (at (tallies order p) own) ≡ gmin s p
+  gmin_read clocks s c o =
+      ap (clock_at clocks own) count_is
       ∙ ap₂ (λ (l m : List ℕ). clock_at l (column_at m (p - 1)) (tally m (p - 1) (column_at m (p - 1)) + 1)) (sym c) (sym o)
       ∙ sym (gmin_at s (p - 1) (omega arith))
 
@@ -83,15 +78,11 @@ module _ (s : Store) (none : store_refusal s ≡ 0) where
         bounded = λ q j hq. omega (arith, tally_mono s.order j q s.events (omega arith), tally_bounded s.tablets snd.narrow (clocks_of s) s.order s.events snd.follow j);
       }
 
-  pub interval_ready : (p : ℕ) → p ≤ s.events → IntervalReady s.clocks s.order p
-  interval_ready p h = record { full = full.clocks; countable = countable p h }
-
   -- a range of the store, up to the tallies after some position
   span_of : (p : ℕ) → p ≤ s.events → (low : List ℕ) → length low ≡ 8 → Bounds (clocks_of s) low (tallies s.order p) → Span s.tablets s.clocks low (tallies s.order p)
   span_of p h low long bounds =
       record {
         tablets = snd.narrow;
-        full = full.clocks;
         stored = λ j hj. omega (arith, at_tallies s.order p j hj, (countable p h).bounded p j (omega arith));
         above = λ j hj high. omega (arith, at_tallies s.order p j hj, tally_mono s.order j p s.events h, tally_above s.tablets snd.narrow (clocks_of s) s.order s.events snd.follow j high);
         bounds = bounds;

@@ -16,7 +16,7 @@ use Rattle.model.proofs.Entries.{same_entries}
 use Rattle.model.proofs.Largest.{max_below_same}
 use Rattle.model.proofs.Raised.{up_own, up_other, raised_upto, raised_behind, raised_long}
 use Rattle.model.proofs.Step.{can_raise_lem, next_inside}
-use Rattle.steps.specs.Walk.{Standing, Raisable, Liftable}
+use Rattle.steps.specs.Walk.{Span, Raisable}
 
 -- the least that is needed in column i, by the counts up to column k of a list
 abbrev needed : Clocks → List ℕ → List ℕ → ℕ → ℕ → ℕ
@@ -56,16 +56,7 @@ filled_more clk low first k n next j entry f less narrow told =
         (max_below_same (k + 1) (λ m. at (known clk m (at next m)) j) (λ m. at (known clk m (at first m)) j)
         (λ m h. ap (λ (c : ℕ). at (known clk m c) j) (f.kept m (omega arith))))
 
-module _ {n : ℕ} {clocks low G : List ℕ} {k : ℕ} (lift : Liftable n clocks low G k) where
-  abbrev high : List ℕ
-  high = lift.high
-
-  abbrev stand : Standing n clocks low high G
-  stand = lift.stand
-
-  abbrev can : Raisable n clocks high G k
-  can = lift.can
-
+module _ {n : ℕ} {clocks low high G : List ℕ} {k : ℕ} (span : Span n clocks low high) (lift : Raisable n clocks low high G k) where
   abbrev clk : Clocks
   clk = clock_at clocks
 
@@ -73,13 +64,13 @@ module _ {n : ℕ} {clocks low G : List ℕ} {k : ℕ} (lift : Liftable n clocks
   first = set G k (at G k + 1)
 
   pub column_fits : k < 8
-  column_fits = omega (arith, can.column, stand.span.tablets)
+  column_fits = omega (arith, lift.column, span.tablets)
 
   pub next_fits : at G k + 1 ≤ 254
-  next_fits = omega (arith, (can_raise_lem clk high G k can.can).room, stand.span.stored k column_fits)
+  next_fits = omega (arith, (can_raise_lem clk high G k lift.can).room, span.stored k column_fits)
 
   first_own : at first k ≡ at G k + 1
-  first_own = get_or-set_same G k (at G k + 1) 0 (omega (arith, stand.inside.long, column_fits))
+  first_own = get_or-set_same G k (at G k + 1) 0 (omega (arith, lift.inside.long, column_fits))
 
   first_other : (i : ℕ) → i ≢ k → at first i ≡ at G i
   first_other i other = get_or-set_other G k i (at G k + 1) 0 other
@@ -92,15 +83,15 @@ module _ {n : ℕ} {clocks low G : List ℕ} {k : ℕ} (lift : Liftable n clocks
   pub first_stored : (i : ℕ) → i ≤ k → at first i ≤ 254
   first_stored i h =
       by_cases (ℕ_discrete i k) (λ e. rw e (omega (arith, first_own, next_fits)))
-      (λ other. omega (arith, first_other i other, stand.inside.cut.most i (omega (arith, column_fits)), stand.span.stored i (omega (arith, column_fits))))
+      (λ other. omega (arith, first_other i other, lift.inside.cut.most i (omega (arith, column_fits)), span.stored i (omega (arith, column_fits))))
 
   -- the next column, by whatever number the code has for it
   pub filled_start : (j : ℕ) → j ≡ k + 1 → Filled clk low first k n first j
   filled_start j next =
       record {
         behind = omega arith;
-        within = omega (arith, can.column);
-        long = length-set G k (at G k + 1) ∙ stand.inside.long;
+        within = omega (arith, lift.column);
+        long = length-set G k (at G k + 1) ∙ lift.inside.long;
         kept = λ i h. refl;
         done = λ i a b. let z : ⊥ = omega arith in absurd z;
         rest = λ i h. refl;
@@ -122,6 +113,6 @@ module _ {n : ℕ} {clocks low G : List ℕ} {k : ℕ} (lift : Liftable n clocks
       (λ near. f.kept i near ∙ first_upto i ∙ sym (raised_upto clk low G k i h near))
       (λ far. by_cases (dec_lt i n)
       (λ listed. f.done i (omega arith) (omega arith) ∙ needed_least i ∙ sym (raised_behind clk low G k i h (omega arith)))
-      (λ above. let zero_high = stand.span.above i h (omega arith) in
-      let inside = next_inside clk low high stand.span.bounds G stand.inside k column_fits (can_raise_lem clk high G k can.can) in
-      omega (arith, f.rest i (omega (arith, f.within)), first_other i (omega arith), stand.inside.cut.most i h, inside.cut.most i h))))
+      (λ above. let zero_high = span.above i h (omega arith) in
+      let inside = next_inside clk low high span.bounds G lift.inside k column_fits (can_raise_lem clk high G k lift.can) in
+      omega (arith, f.rest i (omega (arith, f.within)), first_other i (omega arith), lift.inside.cut.most i h, inside.cut.most i h))))

@@ -8,12 +8,13 @@ use Rattle.model.specs.Lists.{keep}
 use Rattle.model.specs.Clocks.{clock_at}
 use Rattle.model.specs.Cuts.{cuts_between}
 use Rattle.model.specs.Lexical.{lex_before}
+use Rattle.model.specs.Ranges.{InRange}
 use Rattle.model.specs.Step.{step, following}
 use Rattle.model.proofs.Entries.{at_most_refl}
 use Rattle.model.proofs.Lists.{keep_from}
 use Rattle.model.proofs.Ranges.{range_from}
 use Rattle.model.proofs.Step.{step_next, range_first}
-use Rattle.steps.specs.Walk.{Span, Standing, Stepped, stepped, next_after}
+use Rattle.steps.specs.Walk.{Span, Stepped, stepped, next_after}
 
 abbrev pub walked : List ℕ → List ℕ → List ℕ → List (List ℕ)
 walked clocks low high = cuts_between (clock_at clocks) low high
@@ -22,18 +23,18 @@ walked clocks low high = cuts_between (clock_at clocks) low high
 abbrev pub from_cut_lem : List (List ℕ) → List ℕ → List (List ℕ)
 from_cut_lem cuts G = G ∷ keep (lex_before G) cuts
 
-module _ {n : ℕ} {clocks low high : List ℕ} where
-  pub walk_begins : Span n clocks low high → Standing n clocks low high low
-  walk_begins span = record { span = span; inside = record { long = span.long; least = at_most_refl low; cut = span.bounds.bottom } }
+module _ {n : ℕ} {clocks low high : List ℕ} (span : Span n clocks low high) where
+  pub walk_begins : InRange (clock_at clocks) low high low
+  walk_begins = record { long = span.long; least = at_most_refl low; cut = span.bounds.bottom }
 
-  pub all_from_first : Span n clocks low high → walked clocks low high ≡ from_cut_lem (walked clocks low high) low
-  all_from_first span = range_first (clock_at clocks) low high span.bounds span.long
+  pub all_from_first : walked clocks low high ≡ from_cut_lem (walked clocks low high) low
+  all_from_first = range_first (clock_at clocks) low high span.bounds span.long
 
   -- one step from a cut of the range
-  module _ {G : List ℕ} (stand : Standing n clocks low high G) {found : Bool} {H : List ℕ} (told : stepped found H ≡ next_after G (step (clock_at clocks) low high G)) where
+  module _ {G : List ℕ} (stand : InRange (clock_at clocks) low high G) {found : Bool} {H : List ℕ} (told : stepped found H ≡ next_after G (step (clock_at clocks) low high G)) where
     pub walk_behind : keep (lex_before G) (walked clocks low high) ≡ cond found (from_cut_lem (walked clocks low high) H) []
     walk_behind =
-        step_next (clock_at clocks) low high stand.span.bounds G stand.inside
+        step_next (clock_at clocks) low high span.bounds G stand
         ∙ shape (step (clock_at clocks) low high G)
         ∙ ap (λ (x : Stepped). cond x.found (from_cut_lem (walked clocks low high) x.counts) []) (sym told)
       where
@@ -55,7 +56,7 @@ module _ {n : ℕ} {clocks low high : List ℕ} where
     pub walk_goes_on : found ≡ true → keep (lex_before G) (walked clocks low high) ≡ from_cut_lem (walked clocks low high) H
     walk_goes_on e = walk_behind ∙ ap (λ (b : Bool). cond b (from_cut_lem (walked clocks low high) H) []) e
 
-    pub walk_stands : found ≡ true → Standing n clocks low high H
+    pub walk_stands : found ≡ true → InRange (clock_at clocks) low high H
     walk_stands e =
         let member : Memᴰ H (keep (lex_before G) (walked clocks low high)) = subst (Memᴰ H) (sym (walk_goes_on e)) (mathlib.Core.List.Memᴰ.head refl) in
-        record { span = stand.span; inside = range_from (clock_at clocks) low high stand.span.bounds.long H (keep_from (lex_before G) (walked clocks low high) member).0 }
+        range_from (clock_at clocks) low high span.bounds.long H (keep_from (lex_before G) (walked clocks low high) member).0

@@ -1,6 +1,6 @@
 -- What the bounds of a range are read from, and what they are.
 use Rattle.std.specs.Prelude.{◌≡◌, ℕ, ◌≤◌, ◌<◌, List, length, get_or}
-use Rattle.model.specs.Lists.{at, zeros}
+use Rattle.model.specs.Lists.{zeros}
 use Rattle.model.specs.Follow.{tally, tallies}
 use Rattle.model.specs.Store.{Store}
 use Rattle.model.specs.Cuts.{gmin}
@@ -12,10 +12,6 @@ pub record Countable (order : List ℕ) (p : ℕ) : Type 0 where
   pub listed : (q : ℕ) → q < p → get_or order q 0 ≤ 8
   pub bounded : (q j : ℕ) → q ≤ p → tally order q j ≤ 254
 
-pub record IntervalReady (clocks order : List ℕ) (p : ℕ) : Type 0 where
-  pub full : 16256 ≤ length clocks
-  pub countable : Countable order p
-
 -- Gmin and Gbnd of any store that has these clocks and this order
 pub record IntervalSpan (clocks order : List ℕ) (p : ℕ) (low high : List ℕ) : Type 0 where
   pub low_is : (s : Store) → s.clocks ≡ clocks → s.order ≡ order → low ≡ gmin s p
@@ -24,8 +20,3 @@ pub record IntervalSpan (clocks order : List ℕ) (p : ℕ) (low high : List ℕ
 pub record TraceSpan (order : List ℕ) (events : ℕ) (low high : List ℕ) : Type 0 where
   pub low_is : low ≡ zeros
   pub high_is : high ≡ tallies order events
-
--- the clocks are of full size and each event that the cut names has a slot
-pub record CutReady (clocks counts : List ℕ) : Type 0 where
-  pub full : 16256 ≤ length clocks
-  pub stored : (j : ℕ) → j < 8 → at counts j ≤ 254

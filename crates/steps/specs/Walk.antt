@@ -5,35 +5,24 @@ use Rattle.model.specs.Lists.{at}
 use Rattle.model.specs.Clocks.{clock_at}
 use Rattle.model.specs.Step.{can_raise}
 use Rattle.model.specs.Ranges.{Bounds, InRange}
+use Rattle.store.specs.Outcomes.{Bounded}
 
 -- the bounds of a walk over lent clocks: no entry above n, none above 254
 pub record Span (n : ℕ) (clocks low high : List ℕ) : Type 0 where
   pub tablets : n ≤ 8
-  pub full : 16256 ≤ length clocks
-  pub stored : (j : ℕ) → j < 8 → at high j ≤ 254
+  pub stored : Bounded high
   pub above : (j : ℕ) → j < 8 → n ≤ j → at high j ≡ 0
   pub bounds : Bounds (clock_at clocks) low high
   pub long : length low ≡ 8
 
--- at one of its cuts
-pub record Standing (n : ℕ) (clocks low high G : List ℕ) : Type 0 where
-  pub span : Span n clocks low high
+-- at one of its cuts, where the tablet in column k can be raised
+pub record Raisable (n : ℕ) (clocks low high G : List ℕ) (k : ℕ) : Type 0 where
   pub inside : InRange (clock_at clocks) low high G
-
--- the tablet in column k can be raised
-pub record Raisable (n : ℕ) (clocks high G : List ℕ) (k : ℕ) : Type 0 where
   pub column : k < n
   pub can : T (can_raise (clock_at clocks) high G k)
 
--- the same for some upper bound, which raising does not look at
-pub record Liftable (n : ℕ) (clocks low G : List ℕ) (k : ℕ) : Type 0 where
-  pub high : List ℕ
-  pub stand : Standing n clocks low high G
-  pub can : Raisable n clocks high G k
-
 -- each event named by the counts up to column k has a slot
-pub record Known (clocks counts : List ℕ) (k j : ℕ) : Type 0 where
-  pub full : 16256 ≤ length clocks
+pub record Known (counts : List ℕ) (k j : ℕ) : Type 0 where
   pub upto : k < 8
   pub column : j < 8
   pub stored : (i : ℕ) → i ≤ k → at counts i ≤ 254

@@ -1,103 +1,92 @@
 // The lexical engine (documents 000 and 002): from a cut of a range to the next. In a step nothing is tested or copied that
 // is only compared; it takes at most n squared byte comparisons.
-ghost use Rattle.std.specs.Prelude.{◌≡◌, ◌≤◌, max, length};
+ghost use Rattle.std.specs.Prelude.{◌≡◌, ◌≤◌, max};
 ghost use Rattle.model.specs.Lists.{at, max_below};
 ghost use Rattle.model.specs.Numbers.{column};
 ghost use Rattle.model.specs.Clocks.{clock_at, known};
-ghost use Rattle.model.specs.Step.{can_raise, raised, step};
-ghost use Rattle.steps.specs.Walk.{Standing, Liftable, Known, stepped, next_after};
+ghost use Rattle.model.specs.Step.{can_raise, raised};
+ghost use Rattle.steps.specs.Walk.{Raisable, Known, stepped, next_after};
+ghost use Rattle.steps.specs.Walked.{Standing, clocks_of, step_of};
 
+use crate::walk::Walk;
 use model::{EventNumber, Tablet};
-use store::inner::slot_of;
+use store::inner::Clocks;
 
 // What an event of one tablet knows of another. The number 0 stands for no event yet, which knows nothing.
-fn known_entry(clocks: &[u8], tablet: Tablet, number: EventNumber, other: Tablet) -> u8
-    requires { (16256 ≤ length clocks.now) × (1 ≤ tablet.0) × (tablet.0 ≤ 8) × (number.0 ≤ 254) × (1 ≤ other.0) × (other.0 ≤ 8) }
-    ensures { result ≡ at (known (clock_at clocks.now) (column tablet) number.0) (column other) }
+#[tactic(auto, using(model::proofs::Entries::at_zeros, model::proofs::Ranges::known_event))]
+fn known_entry(clocks: Clocks, tablet: Tablet, number: EventNumber, other: Tablet) -> u8
+    requires { (1 ≤ tablet.0) × (tablet.0 ≤ 8) × (number.0 ≤ 254) × (1 ≤ other.0) × (other.0 ≤ 8) }
+    ensures { result ≡ at (known (clock_at clocks.entry.bytes.now) (column tablet) number.0) (column other) }
 {
     if number.0 == 0 {
         return 0;
     }
-    let from = 8 * slot_of(tablet, number);
-    let j = other.0 as usize - 1;
-    clocks[from + j]
+    clocks.stored(tablet, number)[other.0 as usize - 1]
 }
 
-fn can_raise(clocks: &[u8], high: &[u8; 8], counts: &[u8; 8], tablet: Tablet) -> bool
-    requires { (16256 ≤ length clocks.now) × (1 ≤ tablet.0) × (tablet.0 ≤ 8) × (at high.now (column tablet) ≤ 254) }
-    ensures { result ≡ can_raise (clock_at clocks.now) high.now counts.now (column tablet) }
-{
-    let own = tablet.0 as usize - 1;
-    let count = counts[own];
-    if high[own] <= count {
-        return false;
-    }
-    let next = count + 1;
-    let from = 8 * slot_of(tablet, EventNumber(next));
-    let mut j: usize = 0;
-    while j < own {
-        if counts[j] < clocks[from + j] {
-            return false;
-        }
-        j += 1;
-    }
-    true
-}
-
-// The largest of a floor and of what the events of all tablets up to a last one know of another tablet, from the last, the
-// newly raised one, down.
-fn least_entry(clocks: &[u8], counts: &[u8; 8], last: Tablet, other: Tablet, floor: u8) -> u8
-    requires { (1 ≤ last.0) × (1 ≤ other.0) × Known clocks.now counts.now (column last) (column other) }
-    ensures { result ≡ max floor (max_below last.0 (λ i. at (known (clock_at clocks.now) i (at counts.now i)) (column other))) }
+// The largest of a floor and of what the events of all tablets up to a last one, the newly raised one, know of another tablet.
+fn least_entry(clocks: Clocks, counts: &[u8; 8], last: Tablet, other: Tablet, floor: u8) -> u8
+    requires { (1 ≤ last.0) × (1 ≤ other.0) × Known counts.now (column last) (column other) }
+    ensures { result ≡ max floor (max_below last.0 (λ i. at (known (clock_at clocks.entry.bytes.now) i (at counts.now i)) (column other))) }
 {
     let mut most = floor;
-    let mut left = last.0;
-    while 0 < left {
-        let count = counts[left as usize - 1];
-        let entry = known_entry(clocks, Tablet(left), EventNumber(count), other);
-        if most < entry {
-            most = entry;
-        }
-        left -= 1;
+    for i in 0..last.0 {
+        let count = EventNumber(counts[i as usize]);
+        most = most.max(known_entry(clocks, Tablet(i + 1), count, other));
     }
     most
 }
 
-fn raise(n: u8, clocks: &[u8], low: &[u8; 8], counts: &mut [u8; 8], tablet: Tablet)
-    requires { (1 ≤ tablet.0) × Liftable n clocks.now low.now counts.old (column tablet) }
-    ensures { counts.new ≡ raised (clock_at clocks.now) low.now counts.old (column tablet) }
-{
-    let own = tablet.0 as usize - 1;
-    counts[own] = counts[own] + 1;
-    let mut i = tablet.0;
-    while i < n {
-        let j = i as usize;
-        let number = i + 1;
-        counts[j] = least_entry(clocks, counts, tablet, Tablet(number), low[j]);
-        i = number;
-    }
-}
-
-// Moves the counts of a cut on to the next cut of the range between two; where there is none, they stay and it says so. They
-// are changed in place: a step copies no cut.
-pub fn next_cut(
-    n: usize,
-    clocks: &[u8],
-    low: &[u8; 8],
-    high: &[u8; 8],
-    counts: &mut [u8; 8],
-) -> bool
-    requires { Standing n clocks.now low.now high.now counts.old }
-    ensures { stepped result counts.new ≡ next_after counts.old (step (clock_at clocks.now) low.now high.now counts.old) }
-{
-    let last = n as u8;
-    let mut number = last;
-    while 0 < number {
-        if can_raise(clocks, high, counts, Tablet(number)) {
-            raise(last, clocks, low, counts, Tablet(number));
-            return true;
+impl Walk<'_> {
+    #[tactic(auto, using(crate::proofs::Entries::raise_no_room, crate::proofs::Entries::raise_unready, crate::proofs::Entries::raise_ready))]
+    fn can_raise(&self, counts: &[u8; 8], tablet: Tablet) -> bool
+        requires { (1 ≤ tablet.0) × (tablet.0 ≤ 8) }
+        ensures { result ≡ can_raise (clocks_of self.now) self.now.high.counts counts.now (column tablet) }
+    {
+        let own = tablet.0 as usize - 1;
+        let count = counts[own];
+        if self.high.counts[own] <= count {
+            return false;
         }
-        number -= 1;
+        let knows = self.clocks.stored(tablet, EventNumber(count + 1));
+        for j in 0..own {
+            if counts[j] < knows[j] {
+                return false;
+            }
+        }
+        true
     }
-    false
+
+    fn raise(&self, counts: &mut [u8; 8], tablet: Tablet)
+        requires { (1 ≤ tablet.0) × Raisable self.now.tablets self.now.clocks.bytes.now self.now.low.counts self.now.high.counts counts.old (column tablet) }
+        ensures { counts.new ≡ raised (clocks_of self.now) self.now.low.counts counts.old (column tablet) }
+    {
+        counts[tablet.0 as usize - 1] += 1;
+        for i in tablet.0..self.tablets {
+            let j = i as usize;
+            counts[j] = least_entry(
+                self.clocks,
+                counts,
+                tablet,
+                Tablet(i + 1),
+                self.low.counts[j],
+            );
+        }
+    }
+
+    // Moves the counts of a cut on to the next cut of the range; where there is none, they stay and it says so. They are changed
+    // in place: a step copies no cut.
+    pub fn next_cut(&self, counts: &mut [u8; 8]) -> bool
+        requires { Standing self.now counts.old }
+        ensures { stepped result counts.new ≡ next_after counts.old (step_of self.now counts.old) }
+    {
+        for i in (0..self.tablets).rev() {
+            let tablet = Tablet(i + 1);
+            if self.can_raise(counts, tablet) {
+                self.raise(counts, tablet);
+                return true;
+            }
+        }
+        false
+    }
 }

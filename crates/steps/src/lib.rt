@@ -5,3 +5,4 @@
 pub mod inside;
 pub mod lex;
 pub mod spans;
+pub mod walk;

@@ -1,7 +1,6 @@
 -- Laws of the model that the proofs of this crate's functions cite.
 pub mod Laws
 pub mod Verdicts
-pub mod Writes
 pub mod Ready
 pub mod Outcomes
 pub mod Unique

@@ -22,6 +22,7 @@ use Rattle.model.proofs.Slots.{slot_below}
 use Rattle.model.proofs.Sound.{Sound, sound, Full, full_sizes_lem}
 use Rattle.model.proofs.Agree.{tallies_same}
 use Rattle.store.specs.Outcomes.{WriteReady, Stored}
+use Rattle.store.specs.Room.{Room}
 use Rattle.store.proofs.Laws.{tallies_raised}
 use Rattle.store.proofs.Verdicts.{record_fits}
 
@@ -57,25 +58,36 @@ module _ (s : Store) (counts : List ℕ) (e : Event) (ready : WriteReady s count
   unfolding event_refusal
   follows = may_follow_lem s.tablets (clocks_of s) (tallies_of s) e.tablet.0 e.clock ready.may
 
-  pub tablet_positive : 1 ≤ e.tablet.0
-  tablet_positive = follows.positive
-
-  pub own_fits : own < 8
+  own_fits : own < 8
   own_fits = omega (arith, follows.positive, follows.listed, snd.narrow)
 
-  pub count_room : at counts own < 254
+  count_room : at counts own < 254
   count_room = rw ready.ready.tally follows.room
 
   own_tally : at counts own ≡ tally s.order s.events own
   own_tally = ap (λ (l : List ℕ). at l own) ready.ready.tally ∙ at_tallies s.order s.events own own_fits
 
-  pub slot_room : slot own (at counts own + 1) < 2032
+  slot_room : slot own (at counts own + 1) < 2032
   slot_room = slot_below (event own (at counts own + 1)) (record { column = own_fits; first = omega arith; last = omega (arith, count_room) })
 
-  pub event_room : s.events < 2032
+  event_room : s.events < 2032
   event_room =
       room_left s.tablets snd.narrow (clocks_of s) s.order s.events snd.follow own own_fits
       (omega (arith, count_room, own_tally))
+
+  pub room : Room s counts e
+  room =
+      let full = tested_full s ready.ready.refusal in
+      record {
+        some = follows.positive;
+        listed = own_fits;
+        count = count_room;
+        slots = slot_room;
+        clocks = full.clocks;
+        held = full.held;
+        order = full.order;
+        events = event_room;
+      }
 
   -- the tallies after the write
   counts_after : set counts own (at counts own + 1) ≡ tallies_of (accepted s e)

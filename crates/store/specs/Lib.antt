@@ -1,2 +1,3 @@
 pub mod Outcomes
 pub mod Testing
+pub mod Room

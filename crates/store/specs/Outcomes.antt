@@ -1,19 +1,42 @@
 -- What the public calls answer and leave behind: for each call one definition of its whole outcome.
-use Rattle.std.specs.Prelude.{◌≡◌, ℕ, cond, List, eqb}
+use Rattle.std.specs.Prelude.{◌≡◌, ℕ, cond, List, eqb, Result, Ok, Err}
 use Rattle.model.specs.declared.Event.{Event}
 use Rattle.model.specs.declared.Record.{Record}
+use Rattle.model.specs.declared.Refusal.{Refusal}
 use Rattle.model.specs.Refusals.{verdict_number}
 use Rattle.model.specs.Store.{Store, store_of, fresh_record, no_record, tallies_of, record_refusal, store_refusal, event_refusal, accepted}
-use Rattle.store.specs.declared.Taken.{Taken}
+pub use Rattle.rules.specs.Reading.{Bounded}
+use Rattle.store.specs.declared.Trace.{Trace}
+use Rattle.store.specs.declared.Buffers.{Buffers}
 use Rattle.store.specs.declared.inner.Appended.{Appended}
+
+-- the store that a trace is, where it lies
+abbrev pub store_in : Trace → Store
+store_in t = store_of t.«record» t.clocks.now t.held.now t.order.now
+
+-- the same of a record and the buffers that are to take its events
+abbrev pub store_at : Record → Buffers → Store
+store_at r b = store_of r b.clocks.now b.held.now b.order.now
+
+-- The buffers are still the three that were lent: what is written to them is written to the lender's.
+pub record SameBuffers (before after : Buffers) : Type 0 where
+  pub clocks : after.clocks.ghost_name ≡ before.clocks.ghost_name
+  pub held : after.held.ghost_name ≡ before.held.ghost_name
+  pub order : after.order.ghost_name ≡ before.order.ghost_name
 
 -- the refusal's number, 0 for none, with the record that is returned
 pub record Opened : Type 0 where
   pub refusal : ℕ
   pub returned : Record
 
-abbrev pub opened : Taken → Opened
-opened t = record { refusal = verdict_number t.verdict; returned = t.record }
+-- the record that goes on: what the call gives, or the one given where it refuses
+abbrev pub record_left : Record → Result Record Refusal → Record
+record_left given (Ok r) = r
+record_left given (Err why) = given
+
+abbrev pub opened : Result Record Refusal → Opened
+opened answer =
+    record { refusal = verdict_number answer; returned = record_left no_record answer }
 
 -- rules 10 and 51: a fresh record, or none
 abbrev pub opening : ℕ → Opened
@@ -25,9 +48,9 @@ pub record Outcome : Type 0 where
   pub refusal : ℕ
   pub store : Store
 
-abbrev pub taken : Taken → List ℕ → List ℕ → List ℕ → Outcome
-taken t clocks held order =
-    record { refusal = verdict_number t.verdict; store = store_of t.record clocks held order }
+abbrev pub taken : Record → Result Record Refusal → List ℕ → List ℕ → List ℕ → Outcome
+taken given answer clocks held order =
+    record { refusal = verdict_number answer; store = store_of (record_left given answer) clocks held order }
 
 -- rules 11 and 51, an event offered to a sound store: taken, or refused with record and buffers as they were
 abbrev pub appending : Store → Event → Outcome
@@ -49,10 +72,18 @@ pub record WriteReady (s : Store) (tallies : List ℕ) (e : Event) : Type 0 wher
   pub ready : AppendReady s tallies
   pub may : event_refusal s e ≡ 0
 
--- the append's outcome, and the tallies of the store at exit
-abbrev pub appended : Appended → List ℕ → List ℕ → List ℕ → Outcome
-appended a clocks held order =
-    record { refusal = verdict_number a.verdict; store = store_of a.record clocks held order }
+-- the append's outcome, and the tallies of the store at exit: where the event is refused, record and tallies are those given
+abbrev pub record_after : Record → Result Appended Refusal → Record
+record_after given (Ok done) = done.record
+record_after given (Err why) = given
+
+abbrev pub appended : Record → Result Appended Refusal → List ℕ → List ℕ → List ℕ → Outcome
+appended given answer clocks held order =
+    record { refusal = verdict_number answer; store = store_of (record_after given answer) clocks held order }
+
+abbrev pub tallies_left : List ℕ → Result Appended Refusal → List ℕ
+tallies_left given (Ok done) = done.tallies
+tallies_left given (Err why) = given
 
 pub record AppendedTo (s : Store) (e : Event) (outcome : Outcome) (tallies : List ℕ) : Type 0 where
   pub outcome_is : outcome ≡ appending s e

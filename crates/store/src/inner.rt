@@ -3,13 +3,14 @@
 // times.
 ghost use Rattle.std.specs.Prelude.{◌≡◌, ◌+◌, ◌≤◌, length};
 ghost use Rattle.std.proofs.lemmas.List.Edits.{sets};
-ghost use Rattle.model.specs.Store.{store_of, fresh_record, no_record};
-ghost use Rattle.store.specs.Outcomes.{AppendReady, appended, AppendedTo};
+ghost use Rattle.model.specs.Store.{fresh_record, no_record};
+ghost use Rattle.store.specs.Outcomes.{SameBuffers, store_at, AppendReady, appended, tallies_left, AppendedTo};
 
+use crate::Buffers;
 use crate::writing::write_event;
-use model::{Event, Record, Verdict};
-pub use rules::clocks::{known_covered, slot_of};
-use rules::follow::offered_verdict;
+use model::{Event, Record, Refusal};
+pub use rules::clocks::{Clocks, is_covered, known_covered, slot_of};
+use rules::follow::Past;
 
 // A record before its first event.
 pub fn fresh_record(tablets: u8) -> Record
@@ -33,44 +34,37 @@ pub fn write_eight(bytes: &mut [u8], from: usize, eight: [u8; 8])
     requires { from + 8 ≤ length bytes.old }
     ensures { bytes.new ≡ sets bytes.old from eight }
 {
-    let mut j: usize = 0;
-    while j < 8 {
-        bytes[from + j] = eight[j];
-        j += 1;
-    }
+    bytes[from..from + 8].copy_from_slice(&eight);
 }
 
-// What an append answers: whether the event was taken, the record that goes on, and the tallies that go with it.
+// A store that has taken an event: the record that goes on, and the tallies that go with it.
 #[derive(Clone, Copy)]
 pub struct Appended {
-    pub verdict: Verdict,
     pub record: Record,
     pub tallies: [u8; 8],
 }
 
 // An event offered to a store that its caller knows to be sound, with the store's tallies at hand: nothing is tested or
-// counted again. The caller keeps what this asks as its own invariant.
+// counted again. The caller keeps what this asks as its own invariant. A refused event leaves record, buffers and tallies as
+// they were.
 pub fn append(
     record: Record,
-    clocks: &mut [u8],
-    held: &mut [u16],
-    order: &mut [u8],
+    buffers: &mut Buffers,
     tallies: [u8; 8],
     event: Event,
-) -> Appended
-    requires { AppendReady (store_of «record» clocks.old held.old order.old) tallies }
-    ensures { AppendedTo (store_of «record» clocks.old held.old order.old) event (appended result clocks.new held.new order.new) result.tallies }
+) -> Result<Appended, Refusal>
+    requires { AppendReady (store_at «record» buffers.old) tallies }
+    ensures appended { AppendedTo (store_at «record» buffers.old) event (appended «record» result buffers.new.clocks.now buffers.new.held.now buffers.new.order.now) (tallies_left tallies result) }
+    ensures same { SameBuffers buffers.old buffers.new }
 {
-    let n = record.tablets;
-    let tablet = event.tablet;
-    let clock = event.clock;
-    let v = offered_verdict(n, clocks, tallies, tablet, &clock);
-    match v {
-        Verdict::Refused(_) => Appended {
-            verdict: v,
-            record,
-            tallies,
-        },
-        Verdict::Passed => write_event(record, clocks, held, order, tallies, event),
-    }
+    let clocks = Clocks {
+        bytes: buffers.trace(record).clocks,
+    };
+    let past = Past {
+        tablets: record.tablets,
+        clocks,
+        tallies,
+    };
+    past.offered_verdict(event.tablet, &event.clock)?;
+    Ok(write_event(record, buffers, tallies, event))
 }

@@ -9,66 +9,67 @@ mod writing;
 
 ghost use Rattle.std.specs.Prelude.{◌≡◌};
 ghost use Rattle.model.specs.Refusals.{verdict_number};
-ghost use Rattle.model.specs.Store.{store_of, store_refusal};
-ghost use Rattle.store.specs.Outcomes.{opening, opened, accepting, taken};
+ghost use Rattle.model.specs.Store.{store_refusal};
+ghost use Rattle.store.specs.Outcomes.{SameBuffers, store_at, store_in, opening, opened, accepting, taken};
 
-use inner::{append, fresh_record, no_record};
-use model::{Event, Record, Verdict};
+use inner::{append, fresh_record};
+use model::{Event, Record, Refusal};
 use testing::{record_verdict, test_store};
 
-// What opening and accepting answer: whether it was taken, and the record that goes on.
+// A stored trace where it lies: the record and the three lent buffers. Nothing is known of it yet.
 #[derive(Clone, Copy)]
-pub struct Taken {
-    pub verdict: Verdict,
+pub struct Trace<'a> {
     pub record: Record,
+    pub clocks: &'a [u8],
+    pub held: &'a [u16],
+    pub order: &'a [u8],
+}
+
+// The three lent buffers of a store that is to take events.
+#[derive(Drop)]
+pub struct Buffers<'a> {
+    pub clocks: &'a mut [u8],
+    pub held: &'a mut [u16],
+    pub order: &'a mut [u8],
+}
+
+impl Buffers<'_> {
+    // The store that they are with a record, to be read.
+    pub fn trace(&self, record: Record) -> Trace<'_>
+        ensures { store_in result ≡ store_at «record» self.now }
+    {
+        Trace {
+            record,
+            clocks: self.clocks,
+            held: self.held,
+            order: self.order,
+        }
+    }
 }
 
 // A fresh record for a number of tablets. No buffer is touched.
-pub fn open(tablets: u8) -> Taken
+pub fn open(tablets: u8) -> Result<Record, Refusal>
     ensures { opened result ≡ opening tablets }
 {
     let record = fresh_record(tablets);
-    let v = record_verdict(record);
-    match v {
-        Verdict::Refused(_) => {
-            let none = no_record();
-            Taken {
-                verdict: v,
-                record: none,
-            }
-        }
-        Verdict::Passed => Taken { verdict: v, record },
-    }
+    record_verdict(record)?;
+    Ok(record)
 }
 
 // Whether a stored trace is sound: passed, or refused 1, 2 or 3.
-pub fn check(record: Record, clocks: &[u8], held: &[u16], order: &[u8]) -> Verdict
-    ensures { verdict_number result ≡ store_refusal (store_of «record» clocks.now held.now order.now) }
+pub fn check(trace: Trace) -> Result<(), Refusal>
+    ensures { verdict_number result ≡ store_refusal (store_in trace.entry) }
 {
-    let tested = test_store(record, clocks, held, order);
-    tested.verdict
+    test_store(trace)?;
+    Ok(())
 }
 
-// Takes the next event, or refuses it and leaves all as it was.
-pub fn accept(
-    record: Record,
-    clocks: &mut [u8],
-    held: &mut [u16],
-    order: &mut [u8],
-    event: Event,
-) -> Taken
-    ensures { taken result clocks.new held.new order.new ≡ accepting (store_of «record» clocks.old held.old order.old) event }
+// Takes the next event and gives the record that goes on, or refuses it and leaves all as it was.
+pub fn accept(record: Record, buffers: &mut Buffers, event: Event) -> Result<Record, Refusal>
+    ensures taken { taken «record» result buffers.new.clocks.now buffers.new.held.now buffers.new.order.now ≡ accepting (store_at «record» buffers.old) event }
+    ensures same { SameBuffers buffers.old buffers.new }
 {
-    let tested = test_store(record, clocks, held, order);
-    let v = tested.verdict;
-    match v {
-        Verdict::Refused(_) => Taken { verdict: v, record },
-        Verdict::Passed => {
-            let counts = tested.counts;
-            let done = append(record, clocks, held, order, counts, event);
-            let verdict = done.verdict;
-            let record = done.record;
-            Taken { verdict, record }
-        }
-    }
+    let tallies = test_store(buffers.trace(record))?;
+    let done = append(record, buffers, tallies, event)?;
+    Ok(done.record)
 }

@@ -1,121 +1,68 @@
 // The store test: one pass over the order list that stops at the first fault.
-ghost use Rattle.std.specs.Prelude.{◌≡◌, cond, not, ◌≤◌, length};
-ghost use Rattle.model.specs.Refusals.{verdict_number, or_else};
-ghost use Rattle.model.specs.Store.{store_of, full_sizes, record_refusal};
+ghost use Rattle.std.specs.Prelude.{◌≡◌, cond, not, ◌≤◌, length, IfOk};
+ghost use Rattle.model.specs.Refusals.{verdict_number};
+ghost use Rattle.model.specs.Store.{full_sizes, record_refusal};
+ghost use Rattle.store.specs.Outcomes.{store_in};
 ghost use Rattle.store.specs.Testing.{Followed, StoreTested};
 
-use model::{Record, Refusal, Tablet, Verdict};
-use rules::follow::stored_verdict;
+use crate::Trace;
+use model::{Record, Refusal, Tablet};
+use rules::clocks::Clocks;
+use rules::follow::Past;
 
-// Whether the events each may follow; where they do, the tallies after them.
-#[derive(Clone, Copy)]
-pub(crate) struct Run {
-    pub passed: bool,
-    pub counts: [u8; 8],
-}
-
-pub(crate) fn follow_all(n: u8, events: usize, clocks: &[u8], order: &[u8]) -> Run
-    requires { (n ≤ 8) × (16256 ≤ length clocks.now) × (events ≤ length order.now) }
-    ensures { Followed n clocks.now order.now events result.passed result.counts }
+// The tallies after the events, where each of them may follow the ones before it.
+fn follow_all(record: Record, clocks: Clocks, order: &[u8]) -> Option<[u8; 8]>
+    requires { («record».tablets ≤ 8) × («record».events ≤ length order.now) }
+    ensures { Followed «record».tablets clocks.entry.bytes.now order.now «record».events result }
 {
-    let mut counts = [0u8; 8];
-    let mut p: usize = 0;
-    while p < events {
-        let byte = order[p];
-        let v = stored_verdict(n, clocks, counts, Tablet(byte));
-        let Verdict::Passed = v else {
-            return Run {
-                passed: false,
-                counts,
-            };
+    let mut tallies = [0u8; 8];
+    for byte in &order[..record.events as usize] {
+        let past = Past {
+            tablets: record.tablets,
+            clocks,
+            tallies,
         };
-        let own = (byte - 1) as usize;
-        counts[own] = counts[own] + 1;
-        p += 1;
+        past.stored_verdict(Tablet(*byte)).ok()?;
+        tallies[(*byte - 1) as usize] += 1;
     }
-    Run {
-        passed: true,
-        counts,
-    }
-}
-
-// What the test of a whole store has found; where it passed, the tallies.
-#[derive(Clone, Copy)]
-pub(crate) struct Tested {
-    pub verdict: Verdict,
-    pub counts: [u8; 8],
-}
-
-fn test_refused(verdict: Verdict) -> Tested
-    ensures { result.verdict ≡ verdict }
-{
-    Tested {
-        verdict,
-        counts: [0u8; 8],
-    }
+    Some(tallies)
 }
 
 // What is tested of a record alone, in the order of the refusals.
-pub(crate) fn record_verdict(record: Record) -> Verdict
+#[tactic(auto, unfolding(model::specs::Store::record_refusal))]
+pub(crate) fn record_verdict(record: Record) -> Result<(), Refusal>
     ensures { verdict_number result ≡ record_refusal «record» }
 {
     let n = record.tablets;
     if n == 0 {
-        return Verdict::Refused(Refusal::NoSuchTabletCount);
+        return Err(Refusal::NoSuchTabletCount);
     }
     if 8 < n {
-        return Verdict::Refused(Refusal::NoSuchTabletCount);
+        return Err(Refusal::NoSuchTabletCount);
     }
-    Verdict::Passed
+    Ok(())
 }
 
-fn size_verdict(clocks: &[u8], held: &[u16], order: &[u8]) -> Verdict
-    ensures { verdict_number result ≡ cond (not (full_sizes clocks.now held.now order.now)) 2 0 }
+fn size_verdict(trace: Trace) -> Result<(), Refusal>
+    ensures { verdict_number result ≡ cond (not (full_sizes trace.entry.clocks.now trace.entry.held.now trace.entry.order.now)) 2 0 }
 {
-    if clocks.len() < 16256 {
-        return Verdict::Refused(Refusal::ShortBuffer);
+    if trace.clocks.len() < 16256 || trace.held.len() < 2032 || trace.order.len() < 2032 {
+        return Err(Refusal::ShortBuffer);
     }
-    if held.len() < 2032 {
-        return Verdict::Refused(Refusal::ShortBuffer);
-    }
-    if order.len() < 2032 {
-        return Verdict::Refused(Refusal::ShortBuffer);
-    }
-    Verdict::Passed
+    Ok(())
 }
 
-// Of two tests the second counts where the first passed.
-fn or_else(first: Verdict, next: Verdict) -> Verdict
-    ensures { verdict_number result ≡ or_else (verdict_number first) (verdict_number next) }
+// The tallies of a store that passes every test, or the first refusal that applies.
+pub(crate) fn test_store(trace: Trace) -> Result<[u8; 8], Refusal>
+    ensures { StoreTested (store_in trace.entry) result }
 {
-    match first {
-        Verdict::Refused(_) => first,
-        Verdict::Passed => next,
+    let record = trace.record;
+    record_verdict(record).and(size_verdict(trace))?;
+    if 2032 < record.events {
+        return Err(Refusal::InvalidStore);
     }
-}
-
-pub(crate) fn test_store(record: Record, clocks: &[u8], held: &[u16], order: &[u8]) -> Tested
-    ensures { StoreTested (store_of «record» clocks.now held.now order.now) result.verdict result.counts }
-{
-    let alone = record_verdict(record);
-    let sizes = size_verdict(clocks, held, order);
-    let v = or_else(alone, sizes);
-    let Verdict::Passed = v else {
-        return test_refused(v);
+    let clocks = Clocks {
+        bytes: trace.clocks,
     };
-    let invalid = Verdict::Refused(Refusal::InvalidStore);
-    let events = record.events as usize;
-    if 2032 < events {
-        return test_refused(invalid);
-    }
-    let n = record.tablets;
-    let run = follow_all(n, events, clocks, order);
-    if run.passed {
-        let counts = run.counts;
-        return Tested {
-            verdict: Verdict::Passed,
-            counts,
-        };
-    }
-    test_refused(invalid)
+    follow_all(record, clocks, trace.order).ok_or(Refusal::InvalidStore)
 }

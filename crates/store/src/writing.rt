@@ -1,21 +1,23 @@
 // What accepting an event writes.
-ghost use Rattle.model.specs.Store.{store_of};
-ghost use Rattle.store.specs.Outcomes.{WriteReady, appended, Stored};
+ghost use Rattle.std.specs.Prelude.{Ok};
+ghost use Rattle.store.specs.Outcomes.{SameBuffers, store_at, WriteReady, appended, Stored};
+ghost use Rattle.store.specs.Room.{Room};
 
+use crate::Buffers;
 use crate::inner::{Appended, write_eight};
-use model::{Event, EventNumber, Record, Verdict};
+use model::{Event, EventNumber, Record};
 use rules::clocks::slot_of;
 
 pub(crate) fn write_event(
     record: Record,
-    clocks: &mut [u8],
-    held: &mut [u16],
-    order: &mut [u8],
+    buffers: &mut Buffers,
     tallies: [u8; 8],
     event: Event,
 ) -> Appended
-    requires { WriteReady (store_of «record» clocks.old held.old order.old) tallies event }
-    ensures { Stored (store_of «record» clocks.old held.old order.old) event (appended result clocks.new held.new order.new) result.tallies }
+    requires ready { WriteReady (store_at «record» buffers.old) tallies event }
+    requires room { Room (store_at «record» buffers.old) tallies event }
+    ensures written { Stored (store_at «record» buffers.old) event (appended «record» (Ok result) buffers.new.clocks.now buffers.new.held.now buffers.new.order.now) result.tallies }
+    ensures same { SameBuffers buffers.old buffers.new }
 {
     let tablet = event.tablet;
     let byte = tablet.0;
@@ -23,20 +25,14 @@ pub(crate) fn write_event(
     let count = tallies[own];
     let number = count + 1;
     let at = slot_of(tablet, EventNumber(number));
-    let clock = event.clock;
-    write_eight(clocks, 8 * at, clock);
-    held[at] = event.held;
-    let next = record.events as usize;
-    order[next] = byte;
-    let mut counts = tallies;
-    counts[own] = number;
-    let events = record.events + 1;
-    Appended {
-        verdict: Verdict::Passed,
-        record: Record {
-            tablets: record.tablets,
-            events,
-        },
-        tallies: counts,
-    }
+    write_eight(buffers.clocks, 8 * at, event.clock);
+    buffers.held[at] = event.held;
+    buffers.order[record.events as usize] = byte;
+    let mut tallies = tallies;
+    tallies[own] = number;
+    let record = Record {
+        events: record.events + 1,
+        ..record
+    };
+    Appended { record, tallies }
 }

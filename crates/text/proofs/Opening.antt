@@ -1,22 +1,24 @@
 -- Reading before the first event: the buffers' sizes, the `tablets` line, and the fresh record.
 use mathlib.Core.Path.{◌≡◌, refl, sym, ap, ◌∙◌}
-use mathlib.Core.Bool.{Bool, true, false, cond, not}
+use mathlib.Core.Bool.{Bool, true, false, false≢true, cond, not}
 use mathlib.Core.List.{List, [], ◌∷◌}
 use Prim.Native.Nat.{ℕ, ◌≤◌}
 use native.Mathlib.Omega.{arith}
 use Rattle.model.specs.Lists.{eight}
 use Rattle.model.specs.Follow.{tallies}
-use Rattle.model.specs.Refusals.{verdict_number}
+use Rattle.std.specs.Prelude.{Option, Some, None, Result, Ok, Err, is_err, eqb}
+use Rattle.model.specs.declared.Record.{Record}
+use Rattle.model.specs.declared.Refusal.{Refusal}
+use Rattle.model.specs.Refusals.{number_of, verdict_number}
 use Rattle.model.specs.Store.{Store, store_of, fresh_record, no_record, full_sizes, full_size, valid, record_refusal, store_refusal}
-use Rattle.model.proofs.Refusals.{or_else_next}
-use Rattle.store.specs.declared.Taken.{Taken}
+use Rattle.model.proofs.Refusals.{or_else_next, number_positive}
 use Rattle.store.specs.Outcomes.{Opened, opened, opening, AppendReady}
 use Rattle.store.proofs.Verdicts.{record_passes}
-use Rattle.store.proofs.Outcomes.{open_passed, open_refused, when_zero, when_some}
-use Rattle.lines.specs.declared.numbers.Number.TheVariants.{Value, Faulty}
+use Rattle.store.proofs.Outcomes.{when_zero, when_some}
 use Rattle.lines.specs.Find.{rest_lines}
 use Rattle.loglines.specs.Keys.{number_line, tablets_key}
-use Rattle.loglines.specs.Events.{with_number}
+use Rattle.loglines.specs.Events.{with_said}
+use Rattle.text.specs.Steps.{heading}
 use Rattle.text.specs.Reading.{ReadOutcome, refused, nothing_read, opened_text, read_on, beginning, going_on, reading}
 use Rattle.loglines.proofs.Lines.{with_value, with_fault}
 
@@ -44,6 +46,25 @@ module _ (clocks held order : List ℕ) where
   pub sizes_short : 1 ≤ store_refusal (store_of (fresh_record 1) clocks held order) → full_sizes clocks held order ≡ false
   sizes_short h = by_short (full_sizes clocks held order) _ (fresh_test 1 one_fits) h
 
+  -- as its caller tells the two ways
+  tested_zero : (v : Result (Unit {0}) Refusal) → is_err v ≡ false → verdict_number v ≡ 0
+  tested_zero (Ok x) e = refl
+  tested_zero (Err why) e = absurd (false≢true (sym e))
+
+  tested_some : (v : Result (Unit {0}) Refusal) → is_err v ≡ true → 1 ≤ verdict_number v
+  tested_some (Ok x) e = absurd (false≢true e)
+  tested_some (Err why) e = number_positive why
+
+  module _ (v : Result (Unit {0}) Refusal) (r : Record) (smallest : r ≡ fresh_record 1) (told : verdict_number v ≡ store_refusal (store_of r clocks held order)) where
+    tested : verdict_number v ≡ store_refusal (store_of (fresh_record 1) clocks held order)
+    tested = told ∙ ap (λ (q : Record). store_refusal (store_of q clocks held order)) smallest
+
+    pub found_long : is_err v ≡ false → full_sizes clocks held order ≡ true
+    found_long e = sizes_fit (sym tested ∙ tested_zero v e)
+
+    pub found_short : is_err v ≡ true → full_sizes clocks held order ≡ false
+    found_short e = sizes_short (omega (arith, tested, tested_some v e))
+
   none_yet : ◌≡◌ {A = List ℕ} (0 ∷ 0 ∷ 0 ∷ 0 ∷ 0 ∷ 0 ∷ 0 ∷ 0 ∷ []) (tallies order 0)
   unfolding tallies eight
   none_yet = refl
@@ -51,15 +72,6 @@ module _ (clocks held order : List ℕ) where
   -- so a fresh record is ready for its first event
   pub fresh_store : (n : ℕ) → record_refusal (fresh_record n) ≡ 0 → full_sizes clocks held order ≡ true → AppendReady (store_of (fresh_record n) clocks held order) (0 ∷ 0 ∷ 0 ∷ 0 ∷ 0 ∷ 0 ∷ 0 ∷ 0 ∷ [])
   fresh_store n fits full = record { refusal = fresh_test n fits ∙ ap (λ (b : Bool). cond (not b) 2 0) full; tally = none_yet }
-
--- what opening answers
-
-module _ (n : ℕ) (t : Taken) (is : opened t ≡ opening n) where
-  pub opened_number : verdict_number t.verdict ≡ record_refusal (fresh_record n)
-  opened_number = ap (λ (o : Opened). o.refusal) is
-
-  pub opened_fresh : record_refusal (fresh_record n) ≡ 0 → t.«record» ≡ fresh_record n
-  opened_fresh fits = ap (λ (o : Opened). o.returned) is ∙ when_zero (record_refusal (fresh_record n)) (fresh_record n) no_record fits
 
 -- reading up to the first event
 
@@ -71,7 +83,7 @@ module _ (text clocks held order : List ℕ) where
   opens n = opened_text (opening n) clocks held order
 
   abbrev first_line_lem : ReadOutcome
-  first_line_lem = with_number (number_line tablets_key 255 text) (refused 12 1 nothing) opens
+  first_line_lem = with_said (number_line tablets_key 255 text) (refused 12 1 nothing) opens
 
   begin_short : full_sizes clocks held order ≡ false → beginning text clocks held order ≡ refused 2 0 nothing
   unfolding beginning
@@ -82,23 +94,24 @@ module _ (text clocks held order : List ℕ) where
     unfolding beginning
     past_sizes = ap (λ (b : Bool). cond b first_line_lem (refused 2 0 nothing)) full
 
-    begin_faulty : number_line tablets_key 255 text ≡ Faulty → beginning text clocks held order ≡ refused 12 1 nothing
+    begin_faulty : number_line tablets_key 255 text ≡ None → beginning text clocks held order ≡ refused 12 1 nothing
     begin_faulty e = past_sizes ∙ with_fault _ opens (number_line tablets_key 255 text) e
 
-    module _ (n : ℕ) (is : number_line tablets_key 255 text ≡ Value n) where
+    module _ (n : ℕ) (is : number_line tablets_key 255 text ≡ Some n) where
       by_number : beginning text clocks held order ≡ opens n
       by_number = past_sizes ∙ with_value _ opens (number_line tablets_key 255 text) n is
 
       begin_refused : 1 ≤ record_refusal (fresh_record n) → beginning text clocks held order ≡ refused (record_refusal (fresh_record n)) 1 nothing
       begin_refused some =
           by_number
-          ∙ ap (λ (o : Opened). opened_text o clocks held order) (sym (open_refused n _ no_record refl refl some))
+          ∙ ap (λ (r : Record). opened_text (record { refusal = record_refusal (fresh_record n); returned = r }) clocks held order) (when_some (record_refusal (fresh_record n)) (fresh_record n) no_record some)
           ∙ ap (λ (line : ℕ). refused (record_refusal (fresh_record n)) line nothing) (when_some (record_refusal (fresh_record n)) 0 1 some)
 
       begin_fresh : record_refusal (fresh_record n) ≡ 0 → beginning text clocks held order ≡ record { refusal = 0; line = 0; store = store_of (fresh_record n) clocks held order }
       begin_fresh none =
           by_number
-          ∙ ap (λ (o : Opened). opened_text o clocks held order) (sym (open_passed n 0 (fresh_record n) (sym none) refl none))
+          ∙ ap (λ (r : Record). opened_text (record { refusal = record_refusal (fresh_record n); returned = r }) clocks held order) (when_zero (record_refusal (fresh_record n)) (fresh_record n) no_record none)
+          ∙ ap {B = ReadOutcome} (λ (k : ℕ). record { refusal = k; line = cond (eqb k 0) 0 1; store = store_of (fresh_record n) clocks held order }) none
 
       pub reading_refused : 1 ≤ record_refusal (fresh_record n) → reading text clocks held order ≡ refused (record_refusal (fresh_record n)) 1 nothing
       unfolding reading
@@ -108,10 +121,49 @@ module _ (text clocks held order : List ℕ) where
       unfolding reading
       reading_goes none = ap (going_on text) (begin_fresh none)
 
-    pub reading_faulty : number_line tablets_key 255 text ≡ Faulty → reading text clocks held order ≡ refused 12 1 nothing
+    pub reading_faulty : number_line tablets_key 255 text ≡ None → reading text clocks held order ≡ refused 12 1 nothing
     unfolding reading
     reading_faulty e = ap (going_on text) (begin_faulty e)
 
   pub reading_short : full_sizes clocks held order ≡ false → reading text clocks held order ≡ refused 2 0 nothing
   unfolding reading
   reading_short e = ap (going_on text) (begin_short e)
+
+-- what the head's line opens, told by what is answered
+
+pub record HeadOpens (text : List ℕ) (r : Record) : Type 0 where
+  pub tablets : ℕ
+  pub said : number_line tablets_key 255 text ≡ Some tablets
+  pub fits : record_refusal (fresh_record tablets) ≡ 0
+  pub fresh : r ≡ fresh_record tablets
+
+module _ (text : List ℕ) where
+  abbrev by_number_said : Option ℕ → Opened
+  by_number_said x = with_said x (record { refusal = 12; returned = no_record }) opening
+
+  opens_by : (r : Record) (x : Option ℕ) → number_line tablets_key 255 text ≡ x → opened (Ok r) ≡ by_number_said x → HeadOpens text r
+  opens_by r None said is = let no : ⊥ = omega (arith, ap (λ (o : Opened). o.refusal) is) in absurd no
+  opens_by r (Some n) said is =
+      let fits : record_refusal (fresh_record n) ≡ 0 = sym (ap (λ (o : Opened). o.refusal) is) in
+      record {
+        tablets = n;
+        said = said;
+        fits = fits;
+        fresh = ap (λ (o : Opened). o.returned) is ∙ when_zero (record_refusal (fresh_record n)) (fresh_record n) no_record fits;
+      }
+
+  pub head_opens : (r : Record) → opened (Ok r) ≡ heading text → HeadOpens text r
+  head_opens r is = opens_by r (number_line tablets_key 255 text) refl is
+
+  module _ (why : Refusal) (clocks held order : List ℕ) (full : full_sizes clocks held order ≡ true) where
+    refuses_by : (x : Option ℕ) → number_line tablets_key 255 text ≡ x → opened (Err why) ≡ by_number_said x → reading text clocks held order ≡ refused (number_of why) 1 (nothing_read clocks held order)
+    refuses_by None said is =
+        reading_faulty text clocks held order full said
+        ∙ ap (λ (k : ℕ). refused k 1 (nothing_read clocks held order)) (sym (ap (λ (o : Opened). o.refusal) is))
+    refuses_by (Some n) said is =
+        let number : number_of why ≡ record_refusal (fresh_record n) = ap (λ (o : Opened). o.refusal) is in
+        reading_refused text clocks held order full n said (omega (arith, number_positive why, number))
+        ∙ ap (λ (k : ℕ). refused k 1 (nothing_read clocks held order)) (sym number)
+
+    pub head_refuses : opened (Err why) ≡ heading text → reading text clocks held order ≡ refused (number_of why) 1 (nothing_read clocks held order)
+    head_refuses is = refuses_by (number_line tablets_key 255 text) refl is

@@ -1,5 +1,5 @@
 -- Where the reader stands: a line begins there, and it is one more than there are LFs in front; and so it stays as it is moved on.
-use mathlib.Core.Path.{◌≡◌, refl, sym, ap, ◌∙◌, subst}
+use mathlib.Core.Path.{◌≡◌, refl, sym, ap, ◌∙◌}
 use mathlib.Core.Bool.{Bool, true, false, cond}
 use mathlib.Core.List.{List, [], ◌∷◌}
 use Prim.Native.Nat.{ℕ, zero, suc, ◌+◌, ◌≤◌, ◌<◌}
@@ -99,7 +99,3 @@ module _ (text : List ℕ) (at line : ℕ) (p : Placed text at line) where
     begins = begins_on text at bytes p.begins q.begins;
     agrees = omega (arith, p.agrees, q.agrees, feeds_parts at bytes text);
   }
-
-  pub line_on : (bytes : ℕ) → bytes ≡ line_bytes (drop at text) → 1 ≤ length (first_line (drop at text)) → Placed text (at + bytes) (line + 1)
-  line_on bytes is some =
-      further bytes 1 (subst (λ (k : ℕ). Placed (drop at text) k 2) (sym is) (behind_line (drop at text) some))

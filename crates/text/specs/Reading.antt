@@ -1,13 +1,15 @@
 -- What reading answers and leaves behind, for every text and every three buffers.
-use Rattle.std.specs.Prelude.{ℕ, zero, suc, ◌+◌, ◌-◌, cond, List, ltb, eqb, length, drop}
-use Rattle.model.specs.Refusals.{verdict_number}
+use Rattle.std.specs.Prelude.{ℕ, zero, suc, ◌+◌, ◌-◌, cond, List, Result, Ok, Err, ltb, eqb, length, drop}
+use Rattle.model.specs.declared.Record.{Record}
+use Rattle.model.specs.Refusals.{number_of}
 use Rattle.model.specs.Store.{Store, store_of, no_record, full_sizes}
 use Rattle.store.specs.Outcomes.{Opened, opening, appending}
 use Rattle.lines.specs.Find.{rest_lines}
 use Rattle.loglines.specs.declared.events.EventLines.{EventLines}
-use Rattle.text.specs.declared.reading.ReadAnswer.{ReadAnswer}
+use Rattle.loglines.specs.declared.events.FaultyLine.{FaultyLine}
+use Rattle.text.specs.declared.reading.ReadRefusal.{ReadRefusal}
 use Rattle.loglines.specs.Keys.{number_line, ends_here, tablets_key, events_key}
-use Rattle.loglines.specs.Events.{with_number, line_bytes, event_lines}
+use Rattle.loglines.specs.Events.{with_said, line_bytes, event_lines}
 
 -- the refusal's number, 0 for none, its line, 0 where there is none to name, and the store at exit
 pub record ReadOutcome : Type 0 where
@@ -15,9 +17,11 @@ pub record ReadOutcome : Type 0 where
   pub line : ℕ
   pub store : Store
 
-abbrev pub read_outcome : ReadAnswer → List ℕ → List ℕ → List ℕ → ReadOutcome
-read_outcome a clocks held order =
-    record { refusal = verdict_number a.verdict; line = a.line; store = store_of a.record clocks held order }
+abbrev pub read_outcome : Result Record ReadRefusal → List ℕ → List ℕ → List ℕ → ReadOutcome
+read_outcome (Ok r) clocks held order =
+    record { refusal = 0; line = 0; store = store_of r clocks held order }
+read_outcome (Err e) clocks held order =
+    record { refusal = number_of e.why; line = e.line; store = store_of e.record clocks held order }
 
 -- rule 42: a refusal names its line, and keeps what was accepted before
 abbrev pub refused : ℕ → ℕ → Store → ReadOutcome
@@ -26,7 +30,7 @@ refused number line s = record { refusal = number; line = line; store = s }
 -- rules 38 and 40 to 42: the last line
 unfoldable pub ending : Store → ℕ → List ℕ → ReadOutcome
 ending s line text =
-    with_number (number_line events_key 65535 text) (refused 12 line s)
+    with_said (number_line events_key 65535 text) (refused 12 line s)
     λ count. cond (eqb count s.events)
     (cond (ltb (line_bytes text) (length text)) (refused 12 (line + 1) s) (record { refusal = 0; line = 0; store = s }))
     (refused 12 line s)
@@ -38,11 +42,10 @@ pub record TurnOutcome : Type 0 where
   pub used : ℕ
   pub store : Store
 
-abbrev pub offered : Store → EventLines → TurnOutcome
-offered s e =
-    cond (eqb e.fault 0)
-    (record { refusal = (appending s e.event).refusal; line = 2; used = e.used; store = (appending s e.event).store })
-    (record { refusal = 12; line = e.fault - 1; used = 0; store = s })
+abbrev pub offered : Store → Result EventLines FaultyLine → TurnOutcome
+offered s (Ok e) =
+    record { refusal = (appending s e.event).refusal; line = 2; used = e.used; store = (appending s e.event).store }
+offered s (Err f) = record { refusal = 12; line = f.line; used = 0; store = s }
 
 unfoldable pub turn : Store → List ℕ → TurnOutcome
 turn s text = offered s (event_lines s.tablets text)
@@ -75,7 +78,7 @@ opened_text o clocks held order =
 unfoldable pub beginning : List ℕ → List ℕ → List ℕ → List ℕ → ReadOutcome
 beginning text clocks held order =
     cond (full_sizes clocks held order)
-    (with_number (number_line tablets_key 255 text) (refused 12 1 (nothing_read clocks held order))
+    (with_said (number_line tablets_key 255 text) (refused 12 1 (nothing_read clocks held order))
     λ n. opened_text (opening n) clocks held order)
     (refused 2 0 (nothing_read clocks held order))
 

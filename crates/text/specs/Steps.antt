@@ -1,17 +1,17 @@
 -- How reading goes through a text, step by step: where the reader stands, and what the inner functions may assume and promise.
-use Rattle.std.specs.Prelude.{◌≡◌, Bool, true, false, cond, List, [], ◌∷◌, ℕ, zero, suc, ◌+◌, ◌≤◌, ◌<◌, eqb, length, get_or, drop}
+use Rattle.std.specs.Prelude.{◌≡◌, Bool, true, cond, List, [], ◌∷◌, ℕ, zero, suc, ◌+◌, ◌≤◌, Result, MatchResult, ⊤, eqb, length, get_or, drop}
 use Rattle.model.specs.declared.Record.{Record}
-use Rattle.model.specs.declared.Verdict.{Verdict}
-use Rattle.model.specs.declared.Verdict.TheVariants.{Passed}
-use Rattle.model.specs.Lists.{zeros}
-use Rattle.model.specs.Refusals.{verdict_number}
+use Rattle.model.specs.Refusals.{number_of}
 use Rattle.model.specs.Store.{Store, store_of, no_record, full_sizes}
-use Rattle.store.specs.Outcomes.{AppendReady}
-use Rattle.loglines.specs.Events.{event_lines}
-use Rattle.text.specs.declared.reading.ReadAnswer.{ReadAnswer}
+use Rattle.store.specs.Outcomes.{Opened, opening, AppendReady}
+use Rattle.loglines.specs.Keys.{number_line, tablets_key}
+use Rattle.loglines.specs.Events.{with_said}
 use Rattle.text.specs.declared.standing.Step.{Step}
-use Rattle.text.specs.declared.events.Turn.{Turn}
-use Rattle.text.specs.Reading.{ReadOutcome, read_outcome, TurnOutcome, ending, turn, read_on, reading}
+use Rattle.text.specs.declared.standing.Next.{Next}
+use Rattle.text.specs.declared.standing.Next.TheVariants.{More, Read, Refused}
+use Rattle.text.specs.declared.events.TakenEvent.{TakenEvent}
+use Rattle.text.specs.declared.events.RefusedEvent.{RefusedEvent}
+use Rattle.text.specs.Reading.{ReadOutcome, refused, ending, turn, read_on, reading}
 
 -- Where the reader stands.
 
@@ -35,75 +35,68 @@ pub record Placed (text : List ℕ) (at line : ℕ) : Type 0 where
   pub begins : begins_line text at ≡ true
   pub agrees : line ≡ line_at text at
 
--- The steps.
+-- The steps. Each is told by the text that was ahead of the reader, and the line at which that begins.
 
--- before the first turn nothing has been read
-abbrev pub begun_step : Step
-begun_step =
-    record { more = true; at = 0; line = 1; verdict = Passed; «record» = no_record; tallies = zeros; opened = false }
+-- what is read where a step leaves the reader: the events behind it, or the outcome where nothing follows
+abbrev pub follows : Next → List ℕ → ℕ → Store → ReadOutcome
+follows (More tallies) ahead line s = read_on s line ahead
+follows Read ahead line s = record { refusal = 0; line = 0; store = s }
+follows (Refused why) ahead line s = refused (number_of why) line s
 
--- reading halts at an offset and line, and keeps what was read before
-abbrev pub halted : Step → Verdict → ℕ → ℕ → Step
-halted last verdict at line =
-    record { more = false; at = at; line = line; verdict = verdict; «record» = last.record; tallies = last.tallies; opened = last.opened }
+abbrev pub resumed : List ℕ → ℕ → Step → List ℕ → List ℕ → List ℕ → ReadOutcome
+resumed ahead line t clocks held order =
+    follows t.next (drop t.bytes ahead) (line + t.lines) (store_of t.record clocks held order)
 
--- the answer after the last turn: a refusal names the line where the reader stands, a text that was read names none
-abbrev pub stopped_at : Step → ℕ → ReadAnswer
-stopped_at t line = record { verdict = t.verdict; line = cond (eqb (verdict_number t.verdict) 0) 0 line; «record» = t.record }
+-- where another turn is to follow
+abbrev pub IfMore : Next → (List ℕ → Type 0) → Type 0
+IfMore (More tallies) P = P tallies
+IfMore Read P = ⊤
+IfMore (Refused why) P = ⊤
 
--- what is to be read where the reader stands: the events behind it where a record was opened, else the whole text
-abbrev pub read_here : List ℕ → Bool → ℕ → ℕ → Store → ReadOutcome
-read_here text opened at line s = cond opened (read_on s line (drop at text)) (reading text s.clocks s.held s.order)
-
--- what is read from a step on, or the answer where it was the last
-abbrev pub resumed : List ℕ → Step → List ℕ → List ℕ → List ℕ → ReadOutcome
-resumed text t clocks held order =
-    cond t.more (read_here text t.opened t.at t.line (store_of t.record clocks held order))
-    (read_outcome (stopped_at t t.line) clocks held order)
-
--- What the inner functions may assume.
-
--- behind the head: a sound store, at its place in the text
-pub record EventsReady (text : List ℕ) (at line : ℕ) (s : Store) (tallies : List ℕ) : Type 0 where
-  pub placed : Placed text at line
+-- it finds a sound store, further on
+pub record GoesOn (bytes : ℕ) (s : Store) (tallies : List ℕ) : Type 0 where
   pub append : AppendReady s tallies
+  pub further : 1 ≤ bytes
 
--- any turn: the first is taken at the text's front, with buffers that were found long enough
-pub record TurnReady (text : List ℕ) (last : Step) (at line : ℕ) (s : Store) : Type 0 where
-  pub placed : Placed text at line
-  pub front : last.opened ≡ false → (at ≡ 0) × (full_sizes s.clocks s.held s.order ≡ true)
-  pub append : last.opened ≡ true → AppendReady s last.tallies
+-- what is read from the step on is what was to be read, and where the step leaves the reader its line begins
+pub record StepTaken (ahead : List ℕ) (line : ℕ) (whole : ReadOutcome) (t : Step) (clocks held order : List ℕ) : Type 0 where
+  pub outcome_is : resumed ahead line t clocks held order ≡ whole
+  pub placed : Placed ahead t.bytes (t.lines + 1)
+  pub on : IfMore t.next (GoesOn t.bytes (store_of t.record clocks held order))
 
--- What they promise.
+-- the head, whatever the buffers hold: the record that its line opens, and the first turn
+abbrev pub heading : List ℕ → Opened
+heading text =
+    with_said (number_line tablets_key 255 text) (record { refusal = 12; returned = no_record }) opening
 
--- where another turn is to follow, it finds a sound store, further on
-pub record GoesOn (at : ℕ) (t : Step) (s : Store) : Type 0 where
-  pub opened_is : t.opened ≡ true
-  pub append : AppendReady s t.tallies
-  pub further : at < t.at
+abbrev pub HeadRead : List ℕ → Step → Type 0
+HeadRead text t =
+    (clocks held order : List ℕ) → full_sizes clocks held order ≡ true → StepTaken text 1 (reading text clocks held order) t clocks held order
 
--- what is read from the step on is what was to be read, and at the step's offset its line begins
-pub record StepTaken (text : List ℕ) (at : ℕ) (whole : ReadOutcome) (t : Step) (clocks held order : List ℕ) : Type 0 where
-  pub outcome_is : resumed text t clocks held order ≡ whole
-  pub placed : Placed text t.at t.line
-  pub on : t.more ≡ true → GoesOn at t (store_of t.record clocks held order)
+-- the last line, whatever the buffers hold
+abbrev pub EndRead : List ℕ → Record → Step → Type 0
+EndRead ahead r t =
+    (line : ℕ) (clocks held order : List ℕ) → StepTaken ahead line (ending (store_of r clocks held order) line ahead) t clocks held order
 
--- the head and the last line, whatever the buffers hold
-abbrev pub HeadRead : List ℕ → ℕ → Step → Type 0
-HeadRead text at t =
-    (clocks held order : List ℕ) → full_sizes clocks held order ≡ true → StepTaken text at (reading text clocks held order) t clocks held order
-
-abbrev pub EndRead : List ℕ → ℕ → ℕ → Record → Step → Type 0
-EndRead text at line r t =
-    (clocks held order : List ℕ) → StepTaken text at (ending (store_of r clocks held order) line (drop at text)) t clocks held order
-
--- the three lines of an event: what became of them, where the last of them that was looked at begins, and that another
--- event may follow
-abbrev pub turned : Turn → List ℕ → List ℕ → List ℕ → TurnOutcome
-turned t clocks held order =
-    record { refusal = verdict_number t.verdict; line = t.line; used = t.used; store = store_of t.record clocks held order }
-
-pub record TurnTaken (s : Store) (text : List ℕ) (t : Turn) (clocks held order : List ℕ) : Type 0 where
-  pub outcome_is : turned t clocks held order ≡ turn s text
-  pub before_is : t.before ≡ (event_lines s.tablets text).before
+-- the three lines of an event: taken, and another event may follow behind them; or refused, and the store stays, at the line
+-- that is named
+pub record IsTaken (s : Store) (ahead : List ℕ) (t : TakenEvent) (clocks held order : List ℕ) : Type 0 where
+  pub passed : (turn s ahead).refusal ≡ 0
+  pub used_is : t.used ≡ (turn s ahead).used
+  pub store_is : store_of t.record clocks held order ≡ (turn s ahead).store
   pub ready : AppendReady (store_of t.record clocks held order) t.tallies
+
+pub record IsRefused (s : Store) (ahead : List ℕ) (t : RefusedEvent) (clocks held order : List ℕ) (r : Record) : Type 0 where
+  pub refusal_is : number_of t.why ≡ (turn s ahead).refusal
+  pub line_is : t.line ≡ (turn s ahead).line
+  pub store_is : store_of r clocks held order ≡ (turn s ahead).store
+  pub placed : Placed ahead t.before (t.line + 1)
+
+abbrev pub EventRead : Store → List ℕ → Record → Result TakenEvent RefusedEvent → List ℕ → List ℕ → List ℕ → Type 0
+EventRead s ahead r answer clocks held order =
+    MatchResult answer (λ t. IsTaken s ahead t clocks held order) (λ t. IsRefused s ahead t clocks held order r)
+
+-- any turn behind the head
+abbrev pub TurnTaken : Store → List ℕ → Step → List ℕ → List ℕ → List ℕ → Type 0
+TurnTaken s ahead t clocks held order =
+    (line : ℕ) → StepTaken ahead line (read_on s line ahead) t clocks held order

@@ -1,127 +1,119 @@
 // Behind the head: the three lines of an event, offered to the store, and the last line.
-ghost use Rattle.std.specs.Prelude.{◌≡◌, drop};
-ghost use Rattle.model.specs.Store.{store_of};
-ghost use Rattle.store.specs.Outcomes.{AppendReady};
-ghost use Rattle.text.specs.Reading.{read_on};
-ghost use Rattle.text.specs.Steps.{Placed, EndRead, TurnTaken, EventsReady, StepTaken};
+ghost use Rattle.store.specs.Outcomes.{SameBuffers, store_at, AppendReady};
+ghost use Rattle.text.specs.Steps.{EndRead, EventRead, TurnTaken};
 
-use crate::standing::{Step, halt};
+use crate::standing::{Next, Step};
 use lines::find::line_length;
-use lines::numbers::Number;
 use loglines::events::read_event;
 use loglines::keys::{EVENTS, ends_here, number_line};
-use model::{Record, Refusal, Verdict};
+use model::{Record, Refusal};
+use store::Buffers;
 use store::inner::append;
 
 // The last line: T, and nothing behind it. Bytes behind it are a line of their own, the faulty one.
-fn read_end(src: &[u8], at: usize, line: usize, last: Step) -> Step
-    requires { Placed src.now at line }
-    ensures { EndRead src.now at line last.«record» result }
+#[tactic(auto, using(crate::proofs::Steps::last_lines))]
+fn read_end(ahead: &[u8], record: Record) -> Step
+    ensures { EndRead ahead.now «record» result }
 {
-    let faulty = Verdict::Refused(Refusal::FaultyLine);
-    let Number::Value(count) = number_line(&src[at..], &EVENTS, 65535) else {
-        return halt(last, faulty, at, line);
+    let faulty = Step {
+        bytes: 0,
+        lines: 0,
+        record,
+        next: Next::Refused(Refusal::FaultyLine),
     };
-    if count != last.record.events as u32 {
-        return halt(last, faulty, at, line);
+    let Some(count) = number_line(ahead, &EVENTS, 65535) else {
+        return faulty;
+    };
+    if count != u32::from(record.events) {
+        return faulty;
     }
-    let next = at + (line_length(&src[at..]) + 1);
-    if next < src.len() {
-        return halt(last, faulty, next, line + 1);
+    let bytes = line_length(ahead) + 1;
+    let next = if bytes < ahead.len() {
+        faulty.next
+    } else {
+        Next::Read
+    };
+    Step {
+        bytes,
+        lines: 1,
+        record,
+        next,
     }
-    halt(last, Verdict::Passed, next, line + 1)
 }
 
-// What became of an event's lines: taken, or refused at the first, second or third of them (line 0, 1 or 2), with so many
-// bytes before it.
+// An event that was taken: the bytes of its three lines, and what goes with the store now.
 #[derive(Clone, Copy)]
-pub(crate) struct Turn {
-    pub verdict: Verdict,
-    pub line: usize,
-    pub before: usize,
+pub(crate) struct TakenEvent {
     pub used: usize,
     pub record: Record,
     pub tallies: [u8; 8],
 }
 
+// An event that was refused at the first, second or third of its lines (0, 1 or 2), with so many bytes before it.
+#[derive(Clone, Copy)]
+pub(crate) struct RefusedEvent {
+    pub why: Refusal,
+    pub line: usize,
+    pub before: usize,
+}
+
 fn take_event(
-    text: &[u8],
+    ahead: &[u8],
     record: Record,
-    clocks: &mut [u8],
-    held: &mut [u16],
-    order: &mut [u8],
     tallies: [u8; 8],
-) -> Turn
-    requires { AppendReady (store_of «record» clocks.old held.old order.old) tallies }
-    ensures { TurnTaken (store_of «record» clocks.old held.old order.old) text.now result clocks.new held.new order.new }
+    buffers: &mut Buffers,
+) -> Result<TakenEvent, RefusedEvent>
+    requires { AppendReady (store_at «record» buffers.old) tallies }
+    ensures read { EventRead (store_at «record» buffers.old) ahead.now «record» result buffers.new.clocks.now buffers.new.held.now buffers.new.order.now }
+    ensures same { SameBuffers buffers.old buffers.new }
 {
-    let n = record.tablets as usize;
-    let lines = read_event(text, n);
-    if lines.fault != 0 {
-        return Turn {
-            verdict: Verdict::Refused(Refusal::FaultyLine),
-            line: lines.fault - 1,
-            before: lines.before,
-            used: 0,
-            record,
-            tallies,
-        };
-    }
-    let event = lines.event;
-    let done = append(record, clocks, held, order, tallies, event);
-    let verdict = done.verdict;
-    let stored = done.record;
-    let counts = done.tallies;
-    Turn {
-        verdict,
+    let lines = read_event(ahead, usize::from(record.tablets)).map_err(|faulty| RefusedEvent {
+        why: Refusal::FaultyLine,
+        line: faulty.line,
+        before: faulty.before,
+    })?;
+    let done = append(record, buffers, tallies, lines.event).map_err(|why| RefusedEvent {
+        why,
         line: 2,
         before: lines.before,
+    })?;
+    let tallies = done.tallies;
+    Ok(TakenEvent {
         used: lines.used,
-        record: stored,
-        tallies: counts,
-    }
+        record: done.record,
+        tallies,
+    })
 }
 
 // A turn behind the head: the last line, or the three lines of an event.
 pub(crate) fn event_turn(
-    src: &[u8],
-    at: usize,
-    line: usize,
-    last: Step,
-    clocks: &mut [u8],
-    held: &mut [u16],
-    order: &mut [u8],
+    ahead: &[u8],
+    record: Record,
+    tallies: [u8; 8],
+    buffers: &mut Buffers,
 ) -> Step
-    requires { EventsReady src.now at line (store_of last.«record» clocks.old held.old order.old) last.tallies }
-    ensures { StepTaken src.now at (read_on (store_of last.«record» clocks.old held.old order.old) line (drop at src.now)) result clocks.new held.new order.new }
+    requires { AppendReady (store_at «record» buffers.old) tallies }
+    ensures taken { TurnTaken (store_at «record» buffers.old) ahead.now result buffers.new.clocks.now buffers.new.held.now buffers.new.order.now }
+    ensures same { SameBuffers buffers.old buffers.new }
 {
-    if ends_here(&src[at..]) {
-        return read_end(src, at, line, last);
+    if ends_here(ahead) {
+        return read_end(ahead, record);
     }
-    let record = last.record;
-    let tallies = last.tallies;
-    let turn = take_event(&src[at..], record, clocks, held, order, tallies);
-    let verdict = turn.verdict;
-    let stored = turn.record;
-    let counts = turn.tallies;
-    let Verdict::Passed = verdict else {
-        return Step {
-            more: false,
-            at: at + turn.before,
-            line: line + turn.line,
-            verdict,
-            record: stored,
-            tallies: counts,
-            opened: true,
-        };
-    };
-    Step {
-        more: true,
-        at: at + turn.used,
-        line: line + 3,
-        verdict,
-        record: stored,
-        tallies: counts,
-        opened: true,
+    match take_event(ahead, record, tallies, buffers) {
+        Ok(taken) => {
+            let tallies = taken.tallies;
+            Step {
+                bytes: taken.used,
+                lines: 3,
+                record: taken.record,
+                next: Next::More(tallies),
+            }
+        }
+        Err(refused) => Step {
+            bytes: refused.before,
+            lines: refused.line,
+            record,
+            next: Next::Refused(refused.why),
+        },
     }
 }

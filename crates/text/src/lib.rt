@@ -8,27 +8,27 @@ pub mod reading;
 mod standing;
 
 ghost use Rattle.std.specs.Prelude.{◌≡◌};
+ghost use Rattle.store.specs.Outcomes.{SameBuffers};
 ghost use Rattle.text.specs.Reading.{reading, read_outcome};
 
-use model::{Refusal, Verdict};
-use reading::{ReadAnswer, read_lines};
+use model::{Record, Refusal};
+use reading::{ReadRefusal, read_lines};
+use store::Buffers;
 use store::inner::{fresh_record, no_record};
-pub use writer::{WriteAnswer, write};
+pub use writer::write;
 
 // Reads a text into a store over the caller's buffers. The buffers are tested first, as those of a store without events;
 // they are only lent for that, so that a refusal leaves them.
-pub fn read(text: &[u8], clocks: &mut [u8], held: &mut [u16], order: &mut [u8]) -> ReadAnswer
-    ensures { read_outcome result clocks.new held.new order.new ≡ reading text.now clocks.old held.old order.old }
+pub fn read(text: &[u8], buffers: &mut Buffers) -> Result<Record, ReadRefusal>
+    ensures read { read_outcome result buffers.new.clocks.now buffers.new.held.now buffers.new.order.now ≡ reading text.now buffers.old.clocks.now buffers.old.held.now buffers.old.order.now }
+    ensures same { SameBuffers buffers.old buffers.new }
 {
-    let smallest = fresh_record(1);
-    let sizes = store::check(smallest, clocks, held, order);
-    let Verdict::Passed = sizes else {
-        let none = no_record();
-        return ReadAnswer {
-            verdict: Verdict::Refused(Refusal::ShortBuffer),
+    if store::check(buffers.trace(fresh_record(1))).is_err() {
+        return Err(ReadRefusal {
+            why: Refusal::ShortBuffer,
             line: 0,
-            record: none,
-        };
-    };
-    read_lines(text, clocks, held, order)
+            record: no_record(),
+        });
+    }
+    read_lines(text, buffers)
 }

@@ -1,73 +1,21 @@
-// Where reading stands between two turns.
-ghost use Rattle.std.specs.Prelude.{◌≡◌};
-ghost use Rattle.text.specs.Steps.{begun_step, halted, stopped_at};
+// Where a turn leaves the reading.
+use model::{Record, Refusal};
 
-use crate::reading::ReadAnswer;
-use model::{Record, Verdict};
-use store::inner::no_record;
+// What follows there: an event or the last line, with the tallies that go with the store; nothing, since the text was read;
+// or nothing, since it is refused there.
+#[derive(Clone, Copy)]
+pub(crate) enum Next {
+    More([u8; 8]),
+    Read,
+    Refused(Refusal),
+}
 
-// What a turn leaves: whether another is to follow, the offset and line that the reader is to be moved to, and what goes with
-// the store. A refusal's offset and line are those of the line that it names. The head opens the record.
+// How many bytes and lines the reader is to be moved on, the record that goes with the store, and what follows. A refusal
+// moves the reader to the line that it names.
 #[derive(Clone, Copy)]
 pub(crate) struct Step {
-    pub more: bool,
-    pub at: usize,
-    pub line: usize,
-    pub verdict: Verdict,
+    pub bytes: usize,
+    pub lines: usize,
     pub record: Record,
-    pub tallies: [u8; 8],
-    pub opened: bool,
-}
-
-// Before the first turn.
-pub(crate) fn begun() -> Step
-    ensures { result ≡ begun_step }
-{
-    let none = no_record();
-    Step {
-        more: true,
-        at: 0,
-        line: 1,
-        verdict: Verdict::Passed,
-        record: none,
-        tallies: [0u8; 8],
-        opened: false,
-    }
-}
-
-// No turn is to follow, and the reader is to stand at the line that decides it.
-pub(crate) fn halt(last: Step, verdict: Verdict, at: usize, line: usize) -> Step
-    ensures { result ≡ halted last verdict at line }
-{
-    let record = last.record;
-    let tallies = last.tallies;
-    Step {
-        more: false,
-        at,
-        line,
-        verdict,
-        record,
-        tallies,
-        opened: last.opened,
-    }
-}
-
-// The answer, at the line that the reader has come to. A text that was read names none.
-pub(crate) fn stopped(last: Step, line: usize) -> ReadAnswer
-    ensures { result ≡ stopped_at last line }
-{
-    let verdict = last.verdict;
-    let record = last.record;
-    let Verdict::Passed = verdict else {
-        return ReadAnswer {
-            verdict,
-            line,
-            record,
-        };
-    };
-    ReadAnswer {
-        verdict,
-        line: 0,
-        record,
-    }
+    pub next: Next,
 }

@@ -1,118 +1,62 @@
 // The texts of the file `stdin`, each below a line `>R,L,n,T` that says what reading it gives: refusal number and line (0,0
 // for a text that is read), and the record. A text goes up to the line end before the next `>`, which is not part of it.
-use crate::cells::{Book, INPUT, LENGTH, cell, keep_bytes, put, put_letter};
-use crate::lend::{Told, read_aside};
-use crate::notes::{CASES, FIXED, add_one, same, same_number};
-use std::num::{wrapping_add_u64, wrapping_sub_u64};
+use crate::lend::{Told, read};
+use crate::notes::{Kind, Notes};
+use crate::stores::{Lent, Store};
+use std::io;
 
-// The file descriptor of standard input.
-const STDIN: i32 = 0;
+// The most that is read, and the most cases that are tried.
+pub(crate) const INPUT_SIZE: usize = 8192;
 
-fn read_input(book: &mut Book) -> u64 {
-    let mut input = [0u8; 8192];
-    let count = io::read_full(STDIN, &mut input);
-    keep_bytes(book, INPUT, &input);
-    count as u64
+const MOST_CASES: usize = 1000;
+
+// Takes a number of the header from the front of the input, and the byte that ends it.
+fn take_number(input: &mut &[u8]) -> usize {
+    let length = input
+        .iter()
+        .take(8)
+        .take_while(|byte| **byte >= b'0')
+        .count();
+    let (digits, rest) = input.split_at_checked(length).unwrap_or((*input, &[]));
+    *input = rest.get(1..).unwrap_or(&[]);
+    digits.iter().fold(
+        0,
+        |value, digit| 10 * (value % 65536) + usize::from(digit.saturating_sub(b'0')),
+    )
 }
 
-fn input(book: &Book, at: u64) -> u64 {
-    cell(book, wrapping_add_u64(INPUT, at))
+// Takes a header, from behind its `>` on.
+fn take_header(input: &mut &[u8]) -> Told {
+    Told {
+        number: take_number(input),
+        line: take_number(input),
+        tablets: take_number(input),
+        events: take_number(input),
+    }
 }
 
-// A number of the header and the index behind the byte that ends it.
-#[derive(Clone, Copy)]
-struct Parsed {
-    value: u64,
-    next: u64,
+// The text at the front of the input, and what stands behind its line end.
+fn split_text(input: &[u8]) -> (&[u8], &[u8]) {
+    let end = input.windows(2).position(|pair| pair == b"\n>".as_slice());
+    match end.and_then(|end| input.split_at_checked(end)) {
+        Some((text, rest)) => (text, rest.get(2..).unwrap_or(&[])),
+        None => (input, &[]),
+    }
 }
 
-fn number_at(book: &Book, from: u64) -> Parsed {
-    let mut value: u64 = 0;
-    let mut digits: u64 = 0;
-    while digits < 8 {
-        let digit = input(book, wrapping_add_u64(from, digits));
-        if digit < 48 {
+// Each text of the input in turn; how many were begun is noted.
+pub(crate) fn try_cases(notes: &mut Notes, input: &[u8]) -> io::Result<()> {
+    let mut rest = input.get(1..).unwrap_or(&[]);
+    for _ in 0..MOST_CASES {
+        let want = take_header(&mut rest);
+        if rest.is_empty() {
             break;
         }
-        value = wrapping_add_u64(10 * (value % 65536), wrapping_sub_u64(digit, 48));
-        digits += 1;
+        let (text, behind) = split_text(rest);
+        notes.cases = notes.cases.saturating_add(1);
+        let got = read(text, &mut Store::empty(Lent::Roomy));
+        notes.same_told(Kind::Fixed, want, got, text)?;
+        rest = behind;
     }
-    Parsed {
-        value,
-        next: wrapping_add_u64(wrapping_add_u64(from, digits), 1),
-    }
-}
-
-#[derive(Clone, Copy)]
-struct Header {
-    want: Told,
-    next: u64,
-}
-
-fn header_at(book: &Book, from: u64) -> Header {
-    let number = number_at(book, from);
-    let line = number_at(book, number.next);
-    let tablets = number_at(book, line.next);
-    let events = number_at(book, tablets.next);
-    Header {
-        want: Told {
-            number: number.value,
-            line: line.value,
-            tablets: tablets.value,
-            events: events.value,
-        },
-        next: events.next,
-    }
-}
-
-// The index of the line end before the next `>`, or the end of the input.
-fn text_end(book: &Book, from: u64, end: u64) -> u64 {
-    let mut i = from;
-    while i < end {
-        if input(book, i) == 10 && input(book, wrapping_add_u64(i, 1)) == 62 {
-            return i;
-        }
-        i += 1;
-    }
-    end
-}
-
-fn put_text(book: &mut Book, from: u64, length: u64) {
-    let mut i: u64 = 0;
-    while i < length {
-        let v = input(book, wrapping_add_u64(from, i));
-        put_letter(book, i, v);
-        i += 1;
-    }
-}
-
-fn try_case(book: &mut Book, want: Told, from: u64, to: u64) {
-    let length = wrapping_sub_u64(to, from);
-    put_text(book, from, length);
-    put(book, LENGTH, length);
-    let got = read_aside(book, length);
-    same_number(book, FIXED, want.number, got.number);
-    same(book, FIXED, want.line, got.line);
-    same(book, FIXED, want.tablets, got.tablets);
-    same(book, FIXED, want.events, got.events);
-}
-
-// Each text of the input in turn, up to the line `>` that ends it; how many were begun is noted.
-pub(crate) fn try_cases(book: &mut Book) {
-    let end = read_input(book);
-    let mut at: u64 = 0;
-    let mut cases: u64 = 0;
-    while cases < 1000 {
-        let header = header_at(book, wrapping_add_u64(at, 1));
-        let from = header.next;
-        if end <= from {
-            return;
-        }
-        let to = text_end(book, from, end);
-        let want = header.want;
-        add_one(book, CASES);
-        try_case(book, want, from, to);
-        at = wrapping_add_u64(to, 1);
-        cases += 1;
-    }
+    Ok(())
 }

@@ -1,41 +1,51 @@
 // The edge sizes: one tablet full, all tablets full.
-use crate::cells::{Book, HAND_CLOCK, HAND_HELD, HAND_TABLET, fill, put};
-use crate::day::{events, hand, put_hand};
-use crate::notes::{FIXED, same};
+use crate::day::{Day, tablet_of};
+use crate::notes::Kind;
 use crate::readings::{read_behind, read_whole};
-use crate::write::{add_event, begin};
-use std::num::wrapping_add_u64;
+use crate::run::Run;
+use crate::stores::Lent;
+use crate::trace::Trace;
+use model::{Event, Refusal};
+use std::io;
+use trials::entries::{Entries, entry, with_entry};
 
-// The next event of a chain is at hand: it knows all before it.
-fn next_of_chain(book: &mut Book, column: u64, count: u64) {
-    put_hand(book, column, wrapping_add_u64(hand(book, column), 1));
-    put(book, HAND_TABLET, wrapping_add_u64(column, 1));
-    put(book, HAND_HELD, count);
-}
-
-// So many events of n tablets in turn.
-fn grow_chain(book: &mut Book, n: u64, most: u64) {
-    begin(book, n);
-    fill(book, HAND_CLOCK, HAND_CLOCK + 8, 0);
-    let mut count: u64 = 0;
-    while count < most {
-        next_of_chain(book, if n == 1 { 0 } else { count % 8 }, count);
-        add_event(book);
-        count += 1;
+// The next event of a chain: it knows all before it.
+fn next_of_chain(clock: &mut Entries, column: usize, held: u16) -> Event {
+    let number = entry(clock, column).saturating_add(1);
+    *clock = with_entry(*clock, column, number);
+    Event {
+        tablet: tablet_of(column),
+        clock: *clock,
+        held,
     }
 }
 
-// A full tablet's event 254 is read, its event 255 refused 8.
-fn read_chain(book: &mut Book, n: u64, most: u64) {
-    grow_chain(book, n, most);
-    read_whole(book, 0);
-    read_whole(book, 4);
-    next_of_chain(book, 0, 65535);
-    read_behind(book, 8);
-    same(book, FIXED, most, events(book));
+// So many events of the tablets in turn; then a full tablet's event 254 is read, its event 255 refused.
+fn read_chain(run: &mut Run, tablets: u8, events: u16) -> io::Result<()> {
+    let mut day = Day::new(run.alloc, tablets);
+    let mut clock = [0; 8];
+    for count in 0..events {
+        let column = if tablets == 1 {
+            0
+        } else {
+            usize::from(count % 8)
+        };
+        day.keep(next_of_chain(&mut clock, column, count))?;
+    }
+    let trace = Trace::new(run.alloc, day)?;
+    read_whole(&mut run.notes, &trace, Lent::Roomy)?;
+    read_whole(&mut run.notes, &trace, Lent::Exact)?;
+    let beyond = next_of_chain(&mut clock, 0, 65535);
+    read_behind(&mut run.notes, &trace, &beyond, Refusal::TabletFull)?;
+    run.notes.same(
+        Kind::Fixed,
+        usize::from(events),
+        trace.day.events.len(),
+        trace.bytes(),
+    )
 }
 
-pub(crate) fn try_full(book: &mut Book) {
-    read_chain(book, 1, 254);
-    read_chain(book, 8, 2032);
+pub(crate) fn try_full(run: &mut Run) -> io::Result<()> {
+    read_chain(run, 1, 254)?;
+    read_chain(run, 8, 2032)
 }

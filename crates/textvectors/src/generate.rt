@@ -1,134 +1,147 @@
 // Events from a fixed rule: a tablet's next, which knows what the tablet knew and now and then what another tablet sent. A wrong
-// one has one thing changed, so that the number by which it is refused is known beforehand.
-use crate::cells::{Book, HAND_CLOCK, HAND_HELD, HAND_TABLET, cell, fill, put};
-use crate::day::{column_of, hand, known, put_hand, tablets, tally};
-use crate::notes::SEED;
-use std::num::{wrapping_add_u64, wrapping_sub_u64};
+// one has one thing changed, so that it is known beforehand why it is refused.
+use crate::day::{Day, tablet_of};
+use crate::run::{Draw, Run};
+use model::{Event, Refusal, Tablet};
+use std::alloc::AllocError;
+use trials::entries::{Entries, at_most, column_of, entry, largest, with_entry};
 
-// A number below `below` from the linear congruence 16807 x mod 2^31 - 1.
-pub(crate) fn draw(book: &mut Book, below: u64) -> u64 {
-    let state = 16807 * (cell(book, SEED) % 2147483647) % 2147483647;
-    put(book, SEED, state);
-    if below == 0 { 0 } else { state / 16 % below }
-}
-
-// The event at hand knows what an event knows, besides what it knew.
-fn learn(book: &mut Book, column: u64, number: u64) {
-    let mut j: u64 = 0;
-    while j < 8 {
-        let v = known(book, column, number, j);
-        if hand(book, j) < v {
-            put_hand(book, j, v);
-        }
-        j += 1;
+// A day of so many events, between whose tablets there is more or less talk.
+pub(crate) fn draw_day(
+    run: &mut Run,
+    tablets: u8,
+    events: usize,
+    talk: usize,
+) -> Result<Day, AllocError> {
+    let mut day = Day::new(run.alloc, tablets);
+    for _ in 0..events {
+        let event = draw_event(&mut run.draw, &day, talk);
+        day.keep(event)?;
     }
+    Ok(day)
 }
 
-// A message from some tablet, mostly of its latest event, sometimes of an older one.
-fn hear(book: &mut Book) {
-    let other = draw(book, tablets(book));
-    let latest = tally(book, other);
-    if draw(book, 3) == 0 {
-        let older = draw(book, wrapping_add_u64(latest, 1));
-        learn(book, other, older);
+// Some column of the day's.
+fn draw_column(draw: &mut Draw, day: &Day) -> usize {
+    draw.below(usize::from(day.tablets))
+}
+
+// What a message says from some tablet, mostly from its latest event, sometimes from an older one.
+fn draw_message(draw: &mut Draw, day: &Day) -> Entries {
+    let other = draw_column(draw, day);
+    let latest = day.tally(other);
+    if draw.once_in(3) {
+        let older = draw.below(usize::from(latest) + 1);
+        day.known(other, older as u8)
     } else {
-        learn(book, other, latest);
+        day.known(other, latest)
     }
 }
 
 // Numbers of one digit up to five.
-fn draw_held(book: &mut Book) -> u64 {
-    match draw(book, 4) {
+fn draw_held(draw: &mut Draw) -> u16 {
+    match draw.below(4) {
         0 => 65535,
-        1 => draw(book, 65536),
-        _ => draw(book, 12),
+        1 => draw.below(65536) as u16,
+        _ => draw.below(12) as u16,
     }
 }
 
-// The next event of some tablet is at hand; about `talk` times of four it has heard of another.
-pub(crate) fn draw_event(book: &mut Book, talk: u64) {
-    let own = draw(book, tablets(book));
-    let before = tally(book, own);
-    fill(book, HAND_CLOCK, HAND_CLOCK + 8, 0);
-    learn(book, own, before);
-    if draw(book, 4) < talk {
-        hear(book);
+// The next event of some tablet; about `talk` times of four it has heard of another.
+fn draw_event(draw: &mut Draw, day: &Day, talk: usize) -> Event {
+    let own = draw_column(draw, day);
+    let before = day.tally(own);
+    let mut clock = day.known(own, before);
+    if draw.below(4) < talk {
+        clock = largest(&clock, &draw_message(draw, day));
     }
-    put_hand(book, own, wrapping_add_u64(before, 1));
-    put(book, HAND_TABLET, wrapping_add_u64(own, 1));
-    let held = draw_held(book);
-    put(book, HAND_HELD, held);
+    Event {
+        tablet: tablet_of(own),
+        clock: with_entry(clock, own, before.saturating_add(1)),
+        held: draw_held(draw),
+    }
+}
+
+// An event, and why it may not follow.
+#[derive(Clone, Copy)]
+pub(crate) struct WrongEvent {
+    pub event: Event,
+    pub why: Refusal,
 }
 
 // A tablet number that no tablet has: 0, or one of the three above n.
-fn wrong_tablet(book: &mut Book) -> u64 {
-    let above = draw(book, 4);
-    let beyond = wrapping_add_u64(tablets(book), above);
-    put(book, HAND_TABLET, if above == 0 { 0 } else { beyond });
-    4
+fn wrong_tablet(draw: &mut Draw, day: &Day, event: Event) -> WrongEvent {
+    let number = match draw.below(4) {
+        0 => 0,
+        above => day.tablets.saturating_add(above as u8),
+    };
+    WrongEvent {
+        event: Event {
+            tablet: Tablet(number),
+            ..event
+        },
+        why: Refusal::NoSuchTablet,
+    }
+}
+
+// One entry of the clock is another.
+fn wrong_entry(event: Event, column: usize, count: u8, why: Refusal) -> WrongEvent {
+    let clock = with_entry(event.clock, column, count);
+    WrongEvent {
+        event: Event { clock, ..event },
+        why,
+    }
 }
 
 // The tablet's own entry one too high, or one too low.
-fn wrong_own(book: &mut Book, own: u64) -> u64 {
-    let by = 2 * (draw(book, 2) % 2);
-    let number = wrapping_add_u64(hand(book, own), by);
-    put_hand(book, own, wrapping_sub_u64(number, 1));
-    5
+fn wrong_own(draw: &mut Draw, event: Event, own: usize) -> WrongEvent {
+    let number = entry(&event.clock, own);
+    let wrong = if draw.once_in(2) {
+        number.saturating_sub(1)
+    } else {
+        number.saturating_add(1)
+    };
+    wrong_entry(event, own, wrong, Refusal::OwnEntryNotNext)
 }
 
 // Another tablet's entry above its tally.
-fn wrong_high(book: &mut Book, other: u64) -> u64 {
-    let number = wrapping_add_u64(tally(book, other), 1);
-    put_hand(book, other, number);
-    6
+fn wrong_high(day: &Day, event: Event, other: usize) -> WrongEvent {
+    let number = day.tally(other).saturating_add(1);
+    wrong_entry(event, other, number, Refusal::EntryTooHigh)
 }
 
 // Another tablet's entry below what the tablet knew of it before, where it knew some.
-fn wrong_low(book: &mut Book, own: u64, other: u64) -> u64 {
-    let before = known(book, own, tally(book, own), other);
-    if before == 0 {
-        return 0;
-    }
-    put_hand(book, other, wrapping_sub_u64(before, 1));
-    7
-}
-
-fn knows_all(book: &Book, column: u64, number: u64) -> bool {
-    let mut j: u64 = 0;
-    while j < 8 {
-        if hand(book, j) < known(book, column, number, j) {
-            return false;
-        }
-        j += 1;
-    }
-    true
+fn wrong_low(day: &Day, event: Event, own: usize, other: usize) -> Option<WrongEvent> {
+    let before = entry(&day.known(own, day.tally(own)), other);
+    let number = before.checked_sub(1)?;
+    Some(wrong_entry(event, other, number, Refusal::NotCovered))
 }
 
 // Another tablet's latest event, without what that one knew, where it knew more.
-fn wrong_message(book: &mut Book, other: u64) -> u64 {
-    let latest = tally(book, other);
-    put_hand(book, other, latest);
-    if knows_all(book, other, latest) { 0 } else { 7 }
-}
-
-fn wrong_entry(book: &mut Book, own: u64, other: u64) -> u64 {
-    match draw(book, 3) {
-        0 => wrong_high(book, other),
-        1 => wrong_low(book, own, other),
-        _ => wrong_message(book, other),
+fn wrong_message(day: &Day, event: Event, other: usize) -> Option<WrongEvent> {
+    let latest = day.tally(other);
+    let wrong = wrong_entry(event, other, latest, Refusal::NotCovered);
+    let sent = day.known(other, latest);
+    if at_most(&sent, &wrong.event.clock) {
+        return None;
     }
+    Some(wrong)
 }
 
-// An event that may not follow is at hand: its number, or 0 where this draw found nothing to change.
-pub(crate) fn draw_wrong_event(book: &mut Book) -> u64 {
-    draw_event(book, 2);
-    let own = column_of(cell(book, HAND_TABLET));
-    let other = draw(book, tablets(book));
-    if draw(book, 4) == 0 {
-        return wrong_tablet(book);
+// An event that may not follow, or none where this draw found nothing to change.
+pub(crate) fn draw_wrong_event(draw: &mut Draw, day: &Day) -> Option<WrongEvent> {
+    let event = draw_event(draw, day, 2);
+    let own = column_of(event.tablet.0);
+    let other = draw_column(draw, day);
+    if draw.once_in(4) {
+        return Some(wrong_tablet(draw, day, event));
     }
     if other == own {
-        return wrong_own(book, own);
+        return Some(wrong_own(draw, event, own));
     }
-    wrong_entry(book, own, other)
+    match draw.below(3) {
+        0 => Some(wrong_high(day, event, other)),
+        1 => wrong_low(day, event, own, other),
+        _ => wrong_message(day, event, other),
+    }
 }

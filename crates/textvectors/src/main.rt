@@ -3,63 +3,53 @@
 #![tactic(auto)]
 
 mod cases;
-mod cells;
 mod day;
 mod full;
 mod generate;
 mod lend;
 mod notes;
-mod print;
 mod readings;
-mod write;
+mod run;
+mod stores;
+mod trace;
 mod writings;
 
-use cases::try_cases;
-use cells::{Book, put};
+use cases::{INPUT_SIZE, try_cases};
 use full::try_full;
-use generate::draw_event;
-use notes::{SEED, TRACES, add_one, say_summary};
+use generate::draw_day;
 use readings::compare_readings;
-use write::{add_event, begin, finish};
+use run::Run;
+use std::io::Result;
+use trace::Trace;
 use writings::{compare_pieces, refuse_writing};
 
+// The file descriptor of standard input: the kit's crate `io` has no name for it.
+const STDIN: i32 = 0;
+
 // The traces that are drawn: 8 numbers of tablets, 40 times.
-const DRAWN: u64 = 320;
+const DRAWN: usize = 320;
 
-// A text of so many events.
-fn draw_day(book: &mut Book, n: u64, most: u64, talk: u64) {
-    begin(book, n);
-    let mut placed: u64 = 0;
-    while placed < most {
-        draw_event(book, talk);
-        add_event(book);
-        placed += 1;
+const SEED: u64 = 20260;
+
+// One drawn trace: tablets, events and the talk between tablets go by its number.
+fn try_trace(run: &mut Run, turn: usize) -> Result<()> {
+    let tablets = (turn % 8) as u8 + 1;
+    let day = draw_day(run, tablets, turn / 8 % 30, turn / 8 % 5)?;
+    let trace = Trace::new(run.alloc, day)?;
+    run.notes.traces = run.notes.traces.saturating_add(1);
+    refuse_writing(run, &trace)?;
+    compare_pieces(&mut run.notes, &trace)?;
+    compare_readings(run, &trace)
+}
+
+fn main(rt: HostRuntime) -> Result<()> {
+    let mut run = Run::new(rt.alloc(), SEED);
+    let mut input = [0; INPUT_SIZE];
+    let length = io::read_full(STDIN, &mut input);
+    try_cases(&mut run.notes, &input[..length])?;
+    try_full(&mut run)?;
+    for turn in 0..DRAWN {
+        try_trace(&mut run, turn)?;
     }
-    finish(book);
-}
-
-// The text of one drawn trace: tablets, events and the talk between tablets go by its number.
-fn try_text(book: &mut Book, turn: u64) {
-    draw_day(book, turn % 8 + 1, turn / 8 % 30, turn / 8 % 5);
-    add_one(book, TRACES);
-    refuse_writing(book);
-    compare_pieces(book);
-    compare_readings(book);
-}
-
-fn try_texts(book: &mut Book) {
-    let mut turn: u64 = 0;
-    while turn < DRAWN {
-        try_text(book, turn);
-        turn += 1;
-    }
-}
-
-fn main() {
-    let mut book = [0u64; 153984];
-    put(&mut book, SEED, 20260);
-    try_cases(&mut book);
-    try_full(&mut book);
-    try_texts(&mut book);
-    say_summary(&book);
+    run.notes.print(&rt)
 }

@@ -1,81 +1,133 @@
-// What was compared: a counter for each kind of comparison and for each refusal number. A difference is printed at once, with
-// the text that it was found at.
-use crate::cells::{Book, cell, put};
-use crate::print::{say_difference, say_line, say_met, say_text};
-use std::num::wrapping_add_u64;
+// What was compared: a counter for each kind of comparison and for each refusal number. A difference is noted with the text that
+// it was found at. The notes of `vectors` have other kinds and another log; the counters of both are those of `trials`.
+use crate::lend::{Told, number_of};
+use model::Refusal;
+use std::alloc::Global;
+use std::io::Write;
+use std::{fmt, io};
+use trials::Counts;
 
-// The generator's state, and what was met.
-pub(crate) const SEED: u64 = 0;
-
-const DIFFERENCES: u64 = 1;
-
-pub(crate) const TRACES: u64 = 2;
-
-pub(crate) const CASES: u64 = 3;
-
-// The kinds of comparison.
-pub(crate) const PIECES: u64 = 8;
-
-pub(crate) const RESTS: u64 = 9;
-
-pub(crate) const REFUSALS: u64 = 10;
-
-pub(crate) const READINGS: u64 = 11;
-
-pub(crate) const CELLS: u64 = 12;
-
-pub(crate) const FIXED: u64 = 13;
-
-// How often each refusal number was expected and given: number r at 32 + r.
-const MET: u64 = 32;
-
-pub(crate) fn add_one(book: &mut Book, note: u64) {
-    let more = wrapping_add_u64(cell(book, note), 1);
-    put(book, note, more);
+// The kinds of comparison, by the numbers that a difference is printed with.
+#[derive(Clone, Copy)]
+pub(crate) enum Kind {
+    Pieces = 8,
+    Rests,
+    Refusals,
+    Readings,
+    Cells,
+    Fixed,
 }
 
-pub(crate) fn same(book: &mut Book, kind: u64, want: u64, got: u64) {
-    add_one(book, kind);
-    if want != got {
-        say_difference(kind, want, got);
-        add_one(book, DIFFERENCES);
-        say_where(book);
+#[derive(Drop)]
+pub(crate) struct Notes {
+    // How many texts of the input were begun, and how many days drawn.
+    pub cases: u64,
+    pub traces: u64,
+    // By the numbers of the kinds.
+    compared: Counts<16>,
+    // How often each refusal number was expected and given.
+    refused: Counts<16>,
+    differences: u64,
+    // All differences, the first hundred with their texts, which may be any bytes.
+    log: Vec<u8>,
+}
+
+impl Notes {
+    pub(crate) fn new(alloc: Global) -> Notes {
+        Notes {
+            cases: 0,
+            traces: 0,
+            compared: Counts::new(),
+            refused: Counts::new(),
+            differences: 0,
+            log: Vec::new(alloc),
+        }
+    }
+
+    fn compared(&self, kind: Kind) -> u64 {
+        self.compared.at(kind as usize)
+    }
+
+    // One comparison, made while a text is tried.
+    pub(crate) fn same(
+        &mut self,
+        kind: Kind,
+        want: usize,
+        got: usize,
+        text: &[u8],
+    ) -> io::Result<()> {
+        self.compared.add(kind as usize);
+        if want == got {
+            return Ok(());
+        }
+        self.differences = self.differences.saturating_add(1);
+        let number = kind as u8;
+        writeln!(self.log, "DIFFERENT kind={number}\nwant={want}\ngot={got}")?;
+        if self.differences <= 100 {
+            writeln!(
+                self.log,
+                "behind cases={}\ntext of bytes={}",
+                self.cases,
+                text.len()
+            )?;
+            self.log.write_all(text)?;
+        }
+        Ok(())
+    }
+
+    // The same of a refusal number, 0 for none, which is counted where it is given as expected.
+    fn same_number(&mut self, kind: Kind, want: usize, got: usize, text: &[u8]) -> io::Result<()> {
+        if want == got {
+            self.refused.add(want);
+        }
+        self.same(kind, want, got, text)
+    }
+
+    // Of a refusal, or of none.
+    pub(crate) fn same_refusal(
+        &mut self,
+        kind: Kind,
+        want: Option<Refusal>,
+        got: Option<Refusal>,
+        text: &[u8],
+    ) -> io::Result<()> {
+        self.same_number(kind, number_of(want), number_of(got), text)
+    }
+
+    // Of all that a reading says.
+    pub(crate) fn same_told(
+        &mut self,
+        kind: Kind,
+        want: Told,
+        got: Told,
+        text: &[u8],
+    ) -> io::Result<()> {
+        self.same_number(kind, want.number, got.number, text)?;
+        self.same(kind, want.line, got.line, text)?;
+        self.same(kind, want.tablets, got.tablets, text)?;
+        self.same(kind, want.events, got.events, text)
+    }
+
+    pub(crate) fn print(&self, rt: &impl Print) -> io::Result<()> {
+        io::writer(rt).write_all(&self.log)?;
+        print!(rt; "{self}")
     }
 }
 
-// How many texts of the input had been begun, and the text: behind the first hundred differences.
-fn say_where(book: &Book) {
-    if cell(book, DIFFERENCES) <= 100 {
-        say_line(b"behind cases=", cell(book, CASES));
-        say_text(book);
+// The summary.
+impl fmt::Display for Notes {
+    fn fmt<W: fmt::Write>(&self, f: &mut fmt::Formatter<W>) -> fmt::Result {
+        writeln!(f, "cases read={}", self.cases)?;
+        writeln!(f, "traces={}", self.traces)?;
+        writeln!(f, "cells={}", self.compared(Kind::Cells))?;
+        writeln!(f, "rests={}", self.compared(Kind::Rests))?;
+        writeln!(f, "refusals={}", self.compared(Kind::Refusals))?;
+        writeln!(f, "pieces={}", self.compared(Kind::Pieces))?;
+        writeln!(f, "readings={}", self.compared(Kind::Readings))?;
+        writeln!(f, "fixed={}", self.compared(Kind::Fixed))?;
+        for number in 1..16 {
+            writeln!(f, "refused {number}={}", self.refused.at(number))?;
+        }
+        writeln!(f, "differences={}", self.differences)
     }
-}
-
-// The same of what a call says: a refusal number, 0 for none.
-pub(crate) fn same_number(book: &mut Book, kind: u64, want: u64, got: u64) {
-    if want == got {
-        add_one(book, MET + want % 16);
-    }
-    same(book, kind, want, got);
-}
-
-fn say_all_met(book: &Book) {
-    let mut number: u64 = 1;
-    while number < 16 {
-        say_met(number, cell(book, wrapping_add_u64(MET, number)));
-        number += 1;
-    }
-}
-
-pub(crate) fn say_summary(book: &Book) {
-    say_line(b"cases read=", cell(book, CASES));
-    say_line(b"traces=", cell(book, TRACES));
-    say_line(b"cells=", cell(book, CELLS));
-    say_line(b"rests=", cell(book, RESTS));
-    say_line(b"refusals=", cell(book, REFUSALS));
-    say_line(b"pieces=", cell(book, PIECES));
-    say_line(b"readings=", cell(book, READINGS));
-    say_line(b"fixed=", cell(book, FIXED));
-    say_all_met(book);
-    say_line(b"differences=", cell(book, DIFFERENCES));
 }

@@ -1,127 +1,134 @@
 // What is written is read back: whole, with an event behind it that may not follow, with a byte spoilt, cut off, and into stores
-// that are too short. A reading leaves the day at what was read, so these go from whole to nothing.
-use crate::cells::{Book, LENGTH, cell, letter, put, put_letter};
-use crate::day::{events, tablets};
-use crate::generate::{draw, draw_wrong_event};
-use crate::lend::{SHORT, Told, lend_sound, read_first, to_tell};
-use crate::notes::{READINGS, same, same_number};
-use crate::write::{add_lines, end_of, finish};
-use std::num::wrapping_add_u64;
+// that are too short.
+use crate::day::Day;
+use crate::generate::draw_wrong_event;
+use crate::lend::{Told, read};
+use crate::notes::{Kind, Notes};
+use crate::run::{Draw, Run};
+use crate::stores::{Buffer, Lent, Store};
+use crate::trace::Trace;
+use model::{Event, Refusal};
+use std::io;
 
-// Reads the text's first bytes: what is said of it. What is stored, the first events of the day, `lend` compares.
-fn compare_reading(book: &mut Book, length: u64, want: Told) {
-    let got = read_first(book, length, want.events);
-    same_number(book, READINGS, want.number, got.number);
-    same(book, READINGS, want.line, got.line);
-    same(book, READINGS, want.tablets, got.tablets);
-    same(book, READINGS, want.events, got.events);
+// How many cells of two buffers are not the same.
+fn differing<T: PartialEq>(want: &[T], got: &[T]) -> usize {
+    want.iter()
+        .zip(got)
+        .filter(|(want, got)| want != got)
+        .count()
 }
 
-// The day's whole text, into buffers with room to spare or, for `SHORT` 4, of document 01's size.
-pub(crate) fn read_whole(book: &mut Book, short: u64) {
-    lend_sound(book);
-    let length = finish(book);
-    put(book, SHORT, short);
-    let want = to_tell(0, 0, tablets(book), events(book));
-    compare_reading(book, length, want);
-    put(book, SHORT, 0);
+// The whole of the three buffers: the slots and order bytes of the events that are to be stored, and the mark everywhere else.
+fn compare_cells(notes: &mut Notes, want: &Store, got: &Store, text: &[u8]) -> io::Result<()> {
+    let clocks = differing(want.clocks.as_flattened(), got.clocks.as_flattened());
+    notes.same(Kind::Cells, 0, clocks, text)?;
+    notes.same(Kind::Cells, 0, differing(&want.held, &got.held), text)?;
+    notes.same(Kind::Cells, 0, differing(&want.order, &got.order), text)
 }
 
-// The event at hand behind all others: refused by a number at its `held` line, all before it kept.
-pub(crate) fn read_behind(book: &mut Book, number: u64) {
-    let last = events(book);
-    put(book, LENGTH, end_of(book, last));
-    add_lines(book);
-    let want = to_tell(number, 3 * (last % 2048) + 4, tablets(book), last);
-    compare_reading(book, cell(book, LENGTH), want);
-    finish(book);
+// Reads a text: what is said of it, and what is stored, the first events of the day.
+fn compare_reading(
+    notes: &mut Notes,
+    day: &Day,
+    text: &[u8],
+    lent: Lent,
+    want: Told,
+) -> io::Result<()> {
+    let mut store = Store::empty(lent);
+    let got = read(text, &mut store);
+    let stored = day.events.get(..want.events).unwrap_or(&day.events);
+    compare_cells(notes, &Store::of(day.tablets, stored), &store, text)?;
+    notes.same_told(Kind::Readings, want, got, text)
 }
 
-fn read_wrong_events(book: &mut Book) {
-    let mut turns: u64 = 0;
-    while turns < 4 {
-        let number = draw_wrong_event(book);
-        if number != 0 {
-            read_behind(book, number);
+// The day's whole text.
+pub(crate) fn read_whole(notes: &mut Notes, trace: &Trace, lent: Lent) -> io::Result<()> {
+    let day = &trace.day;
+    let want = Told::whole(day.tablets, day.events.len());
+    compare_reading(notes, day, trace.bytes(), lent, want)
+}
+
+// An event behind all others: refused at its `held` line, all before it kept.
+pub(crate) fn read_behind(
+    notes: &mut Notes,
+    trace: &Trace,
+    event: &Event,
+    why: Refusal,
+) -> io::Result<()> {
+    let day = &trace.day;
+    let text = trace.with_behind(event)?;
+    let last = day.events.len();
+    let line = last.saturating_mul(3).saturating_add(4);
+    let want = Told::refused(why, line, day.tablets, last);
+    compare_reading(notes, day, text.as_bytes(), Lent::Roomy, want)
+}
+
+fn read_wrong_events(run: &mut Run, trace: &Trace) -> io::Result<()> {
+    for _ in 0..4 {
+        if let Some(wrong) = draw_wrong_event(&mut run.draw, &trace.day) {
+            read_behind(&mut run.notes, trace, &wrong.event, wrong.why)?;
         }
-        turns += 1;
     }
+    Ok(())
 }
 
-// The line that the byte at an index of the text stands in: one more than the line ends before it.
-fn line_of(book: &Book, at: u64) -> u64 {
-    let mut line: u64 = 1;
-    let mut i: u64 = 0;
-    while i < at {
-        if letter(book, i) == 10 {
-            line = wrapping_add_u64(line, 1);
-        }
-        i += 1;
+// What is said where a text is right up to some byte and wrong there: the line is one more than the line ends before it, and the
+// events whose three lines stand before that line are stored.
+fn faulty(tablets: u8, before: &[u8]) -> Told {
+    let ends = before.iter().filter(|byte| **byte == b'\n').count();
+    let line = ends.saturating_add(1);
+    match ends.checked_sub(1) {
+        None => Told::refused(Refusal::FaultyLine, line, 0, 0),
+        Some(behind_head) => Told::refused(Refusal::FaultyLine, line, tablets, behind_head / 3),
     }
-    line
-}
-
-// What is said where the byte at an index is the first that is wrong: the events whose three lines stand before its line are
-// stored.
-fn faulty(book: &Book, at: u64) -> Told {
-    let line = line_of(book, at);
-    if line < 2 {
-        return to_tell(12, line, 0, 0);
-    }
-    to_tell(12, line, tablets(book), (line - 2) / 3)
 }
 
 // Bytes that no line of a text has.
-fn draw_wrong_letter(book: &mut Book) -> u64 {
-    match draw(book, 6) {
-        0 => 120,
-        1 => 32,
-        2 => 13,
-        3 => 43,
+fn draw_wrong_letter(draw: &mut Draw) -> u8 {
+    match draw.below(6) {
+        0 => b'x',
+        1 => b' ',
+        2 => b'\r',
+        3 => b'+',
         4 => 0,
-        _ => 84,
+        _ => b'T',
     }
 }
 
-// The text with the byte at an index spoilt, and cut off before it: 12 at its line.
-fn read_damaged(book: &mut Book, at: u64, length: u64) {
-    let was = letter(book, at);
-    let want = faulty(book, at);
-    let wrong = draw_wrong_letter(book);
-    put_letter(book, at, wrong);
-    compare_reading(book, length, want);
-    put_letter(book, at, was);
-    compare_reading(book, at, want);
+// The text with the byte at an index spoilt, and cut off before it.
+fn read_damaged(notes: &mut Notes, trace: &Trace, at: usize, wrong: u8) -> io::Result<()> {
+    let spoilt = trace.spoilt(at, wrong)?;
+    let before = trace.bytes().get(..at).unwrap_or(&[]);
+    let want = faulty(trace.day.tablets, before);
+    compare_reading(notes, &trace.day, &spoilt, Lent::Roomy, want)?;
+    compare_reading(notes, &trace.day, before, Lent::Roomy, want)
 }
 
 // At an index of the text, then at ones before it.
-fn read_less(book: &mut Book) {
-    let length = cell(book, LENGTH);
-    let mut at = length;
-    let mut turns: u64 = 0;
-    while turns < 3 {
-        at = draw(book, at);
-        read_damaged(book, at, length);
-        turns += 1;
+fn read_less(run: &mut Run, trace: &Trace) -> io::Result<()> {
+    let mut at = trace.bytes().len();
+    for _ in 0..3 {
+        at = run.draw.below(at);
+        let wrong = draw_wrong_letter(&mut run.draw);
+        read_damaged(&mut run.notes, trace, at, wrong)?;
     }
+    Ok(())
 }
 
 // Each buffer one short of document 01's size: refused before the first line, so that there is no record and nothing is stored.
-fn read_short(book: &mut Book) {
-    let mut short: u64 = 1;
-    while short < 4 {
-        put(book, SHORT, short);
-        compare_reading(book, cell(book, LENGTH), to_tell(2, 0, 0, 0));
-        short += 1;
+fn read_short(notes: &mut Notes, trace: &Trace) -> io::Result<()> {
+    let want = Told::refused(Refusal::ShortBuffer, 0, 0, 0);
+    for short in [Buffer::Clocks, Buffer::Held, Buffer::Order] {
+        compare_reading(notes, &trace.day, trace.bytes(), Lent::Short(short), want)?;
     }
-    put(book, SHORT, 0);
+    Ok(())
 }
 
 // All that is read of a day's text.
-pub(crate) fn compare_readings(book: &mut Book) {
-    read_whole(book, 0);
-    read_whole(book, 4);
-    read_wrong_events(book);
-    read_less(book);
-    read_short(book);
+pub(crate) fn compare_readings(run: &mut Run, trace: &Trace) -> io::Result<()> {
+    read_whole(&mut run.notes, trace, Lent::Roomy)?;
+    read_whole(&mut run.notes, trace, Lent::Exact)?;
+    read_wrong_events(run, trace)?;
+    read_less(run, trace)?;
+    read_short(&mut run.notes, trace)
 }

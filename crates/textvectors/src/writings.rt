@@ -1,130 +1,187 @@
 // The library's writer beside the program's own, piece by piece; and stores, pieces and outputs that it refuses. A call is given
 // several faults at once, so that the first that applies is seen to be given.
-use crate::cells::{Book, ORDER, WROTE, cell, letter, put, wide};
-use crate::day::{clock_cell, column_of, events, tablets, tally};
-use crate::generate::draw;
-use crate::lend::{LENT_EVENTS, LENT_TABLETS, SHORT, STAYS, lend_sound, write_piece};
-use crate::notes::{PIECES, REFUSALS, RESTS, same, same_number};
-use crate::write::end_of;
-use std::num::{wrapping_add_u64, wrapping_sub_u64};
+use crate::lend::write;
+use crate::notes::{Kind, Notes};
+use crate::run::Run;
+use crate::stores::{Buffer, Lent, Store, slot_of};
+use crate::trace::Trace;
+use model::{Record, Refusal};
+use std::io;
+use trials::entries::{column_of, with_entry};
 
-fn wrote(book: &Book, i: u64) -> u64 {
-    cell(book, WROTE + i % 256)
+const OUTPUT_SIZE: usize = 256;
+
+// What an output is filled with before a call, so that the bytes that stay are seen.
+const STAYS: u8 = 238;
+
+// A piece that no day has.
+const NO_PIECE: u16 = 10000;
+
+// What a call said, and the program's whole buffer, of which it was lent the front.
+#[derive(Clone, Copy)]
+struct Written {
+    answer: Result<usize, Refusal>,
+    out: [u8; OUTPUT_SIZE],
+}
+
+// A piece by the library, into an output of so many bytes.
+fn write_piece(store: &Store, piece: u16, length: usize) -> Written {
+    let mut out = [STAYS; OUTPUT_SIZE];
+    let answer = write(store, piece, &mut out[..length.min(OUTPUT_SIZE)]);
+    Written { answer, out }
 }
 
 // What stands behind the bytes written, up to the end of the program's own buffer, is as it was.
-fn compare_rest(book: &mut Book, count: u64) {
-    let mut touched: u64 = 0;
-    let mut i = count;
-    while i < 256 {
-        if wrote(book, i) != wide(STAYS) {
-            touched = wrapping_add_u64(touched, 1);
-        }
-        i += 1;
+fn compare_rest(
+    notes: &mut Notes,
+    written: &Written,
+    length: usize,
+    text: &[u8],
+) -> io::Result<()> {
+    let touched = written
+        .out
+        .iter()
+        .skip(length)
+        .filter(|byte| **byte != STAYS)
+        .count();
+    notes.same(Kind::Rests, 0, touched, text)
+}
+
+// A call that is to be refused: nothing is written.
+fn compare_refused(
+    notes: &mut Notes,
+    kind: Kind,
+    why: Refusal,
+    written: &Written,
+    text: &[u8],
+) -> io::Result<()> {
+    notes.same_refusal(kind, Some(why), written.answer.err(), text)?;
+    notes.same(kind, 0, written.answer.unwrap_or(0), text)?;
+    compare_rest(notes, written, 0, text)
+}
+
+// One piece by the library, into an output one byte too short and into one of five bytes more, against the program's.
+fn compare_piece(
+    notes: &mut Notes,
+    store: &Store,
+    piece: u16,
+    want: &[u8],
+    text: &[u8],
+) -> io::Result<()> {
+    let length = want.len();
+    let short = write_piece(store, piece, length.saturating_sub(1));
+    compare_refused(notes, Kind::Pieces, Refusal::ShortOutput, &short, text)?;
+    let written = write_piece(store, piece, length.saturating_add(5));
+    notes.same_refusal(Kind::Pieces, None, written.answer.err(), text)?;
+    notes.same(Kind::Pieces, length, written.answer.unwrap_or(0), text)?;
+    for (want, got) in want.iter().zip(&written.out) {
+        notes.same(Kind::Pieces, usize::from(*want), usize::from(*got), text)?;
     }
-    same(book, RESTS, 0, touched);
-}
-
-// The bytes that the last call wrote, against the text from `at` on.
-fn compare_bytes(book: &mut Book, at: u64, length: u64) {
-    let mut i: u64 = 0;
-    while i < length {
-        let want = letter(book, wrapping_add_u64(at, i));
-        let got = wrote(book, i);
-        same(book, PIECES, want, got);
-        i += 1;
-    }
-}
-
-// A piece that is refused by a number: nothing is written.
-fn refuse(book: &mut Book, kind: u64, p: u64, length: u64, number: u64) {
-    let got = write_piece(book, p, length);
-    same_number(book, kind, number, got.number);
-    same(book, kind, 0, got.length);
-    compare_rest(book, 0);
-}
-
-// One piece by the library, into an output one byte too short and into one of five bytes more, against the text from `at` on.
-fn compare_piece(book: &mut Book, p: u64, at: u64, length: u64) {
-    refuse(book, PIECES, p, wrapping_sub_u64(length, 1), 14);
-    let got = write_piece(book, p, wrapping_add_u64(length, 5));
-    same_number(book, PIECES, 0, got.number);
-    same(book, PIECES, length, got.length);
-    compare_bytes(book, at, length);
-    compare_rest(book, length);
+    compare_rest(notes, &written, length, text)
 }
 
 // Every piece, by both writers.
-pub(crate) fn compare_pieces(book: &mut Book) {
-    lend_sound(book);
-    let behind = wrapping_add_u64(events(book), 2);
-    let mut at: u64 = 0;
-    let mut p: u64 = 0;
-    while p < behind {
-        let end = end_of(book, p);
-        compare_piece(book, p, at, wrapping_sub_u64(end, at));
-        at = end;
-        p += 1;
+pub(crate) fn compare_pieces(notes: &mut Notes, trace: &Trace) -> io::Result<()> {
+    let store = Store::of(trace.day.tablets, &trace.day.events);
+    for (number, piece) in (0..).zip(&trace.pieces) {
+        compare_piece(notes, &store, number, piece.as_bytes(), trace.bytes())?;
     }
+    Ok(())
 }
 
-// A piece that no day has, into an output that takes none: refused by the store's number where the store is refused.
-fn refuse_any(book: &mut Book, number: u64) {
-    refuse(book, REFUSALS, 10000, 7, number);
-}
-
-// One thing wrong with the store that is lent; then it is sound again.
-fn refuse_with(book: &mut Book, what: u64, v: u64, number: u64) {
-    put(book, what, v);
-    refuse_any(book, number);
-    lend_sound(book);
+// A piece that no day has, into an output that takes none: refused for the store where the store is refused.
+fn refuse_any(notes: &mut Notes, store: &Store, why: Refusal, text: &[u8]) -> io::Result<()> {
+    let written = write_piece(store, NO_PIECE, 7);
+    compare_refused(notes, Kind::Refusals, why, &written, text)
 }
 
 // Records with a number of tablets or events that cannot be. With one event more than there are, the mark in the order byte
 // names no tablet.
-fn refuse_records(book: &mut Book) {
-    refuse_with(book, LENT_TABLETS, 0, 1);
-    refuse_with(book, LENT_TABLETS, 9, 1);
-    refuse_with(book, LENT_EVENTS, 2033, 3);
-    refuse_with(book, LENT_EVENTS, wrapping_add_u64(events(book), 1), 3);
+fn refuse_records(notes: &mut Notes, store: &Store, text: &[u8]) -> io::Result<()> {
+    let Record { tablets, events } = store.record;
+    let wrong = [
+        (0, events, Refusal::NoSuchTabletCount),
+        (9, events, Refusal::NoSuchTabletCount),
+        (tablets, 2033, Refusal::InvalidStore),
+        (tablets, events.saturating_add(1), Refusal::InvalidStore),
+    ];
+    for (tablets, events, why) in wrong {
+        let record = Record { tablets, events };
+        refuse_any(notes, &Store { record, ..*store }, why, text)?;
+    }
+    Ok(())
 }
 
 // Each buffer one short of document 01's size; at just that size it is the piece that is refused.
-fn refuse_short(book: &mut Book) {
-    refuse_with(book, SHORT, 1, 2);
-    refuse_with(book, SHORT, 2, 2);
-    refuse_with(book, SHORT, 3, 2);
-    refuse_with(book, SHORT, 4, 9);
+fn refuse_short(notes: &mut Notes, store: &Store, text: &[u8]) -> io::Result<()> {
+    for short in [Buffer::Clocks, Buffer::Held, Buffer::Order] {
+        let lent = Lent::Short(short);
+        refuse_any(notes, &Store { lent, ..*store }, Refusal::ShortBuffer, text)?;
+    }
+    let lent = Lent::Exact;
+    refuse_any(
+        notes,
+        &Store { lent, ..*store },
+        Refusal::NoSuchPosition,
+        text,
+    )
 }
 
-// The store with one byte changed so that it is no trace's; then it is the day's again.
-fn refuse_changed(book: &mut Book, at: u64, v: u64) {
-    let was = cell(book, at);
-    put(book, at, v);
-    refuse_any(book, 3);
-    put(book, at, was);
+// One byte is changed so that the store is no trace's: an event's own entry is another number than its own.
+fn refuse_own(
+    notes: &mut Notes,
+    store: &Store,
+    column: usize,
+    number: u8,
+    text: &[u8],
+) -> io::Result<()> {
+    for wrong in [number.saturating_add(1), number.saturating_sub(1)] {
+        let mut changed = *store;
+        if let Some(clock) = changed.clocks.get_mut(slot_of(column, number)) {
+            *clock = with_entry(*clock, column, wrong);
+        }
+        refuse_any(notes, &changed, Refusal::InvalidStore, text)?;
+    }
+    Ok(())
 }
 
-// An event's own entry is another number than its own, and an order byte names no tablet.
-fn refuse_bytes(book: &mut Book) {
-    let at = wrapping_add_u64(ORDER, draw(book, events(book)));
-    let column = column_of(cell(book, at));
-    let number = wrapping_add_u64(draw(book, tally(book, column)), 1);
-    let own = wrapping_add_u64(clock_cell(column, number), column);
-    refuse_changed(book, own, wrapping_add_u64(number, 1));
-    refuse_changed(book, own, wrapping_sub_u64(number, 1));
-    refuse_changed(book, at, 0);
-    refuse_changed(book, at, wrapping_add_u64(tablets(book), 1));
+// The same: an order byte names no tablet.
+fn refuse_order(notes: &mut Notes, store: &Store, position: usize, text: &[u8]) -> io::Result<()> {
+    for wrong in [0, store.record.tablets.saturating_add(1)] {
+        let mut changed = *store;
+        if let Some(tablet) = changed.order.get_mut(position) {
+            *tablet = wrong;
+        }
+        refuse_any(notes, &changed, Refusal::InvalidStore, text)?;
+    }
+    Ok(())
+}
+
+// Bytes of some event changed, where there is an event.
+fn refuse_bytes(run: &mut Run, trace: &Trace, store: &Store) -> io::Result<()> {
+    let text = trace.bytes();
+    let events = &trace.day.events;
+    if events.is_empty() {
+        return Ok(());
+    }
+    let position = run.draw.below(events.len());
+    let column = events
+        .get(position)
+        .map_or(0, |event| column_of(event.tablet.0));
+    let number = run.draw.below(usize::from(trace.day.tally(column))) as u8 + 1;
+    refuse_own(&mut run.notes, store, column, number, text)?;
+    refuse_order(&mut run.notes, store, position, text)
 }
 
 // All that the writer refuses of a day.
-pub(crate) fn refuse_writing(book: &mut Book) {
-    lend_sound(book);
-    refuse_records(book);
-    refuse_short(book);
-    let above = wrapping_add_u64(events(book), 2);
-    refuse(book, REFUSALS, above, 7, 9);
-    if events(book) != 0 {
-        refuse_bytes(book);
-    }
+pub(crate) fn refuse_writing(run: &mut Run, trace: &Trace) -> io::Result<()> {
+    let text = trace.bytes();
+    let store = Store::of(trace.day.tablets, &trace.day.events);
+    refuse_records(&mut run.notes, &store, text)?;
+    refuse_short(&mut run.notes, &store, text)?;
+    let above = store.record.events.saturating_add(2);
+    let written = write_piece(&store, above, 7);
+    let why = Refusal::NoSuchPosition;
+    compare_refused(&mut run.notes, Kind::Refusals, why, &written, text)?;
+    refuse_bytes(run, trace, &store)
 }

@@ -1,265 +1,218 @@
 // The library's listing, counting and asking beside the second lister, cut by cut; and its listing through a lent place beside
 // that by value.
-use crate::book::{OWN, OWN_COUNT, WRITTEN, WRITTEN_MOVING, listed, put_listed};
-use crate::calls::{ASK, COUNT, DONE, FOUND, LIST, MORE, MOVE, NONE, Request, Said};
-use crate::cells::{Book, cell, put, wide};
-use crate::lend::{STAYS, ask_store};
-use crate::notes::{ANSWERS, COUNTS, CUTS, LISTINGS, MOVING, REST, same, same_word};
-use crate::second::{Asking, first_meeting};
-use std::num::{wrapping_add_u64, wrapping_sub_u64};
+use crate::calls::{Call, NO_PLACE, Said, Word, ask_library, place_behind};
+use crate::lend::Lent;
+use crate::notes::Kind;
+use crate::output::Output;
+use crate::parts::{behind, front};
+use crate::run::Run;
+use crate::second::first_meeting;
+use model::{Cut, Job, Place, Position, Question, Range, Refusal};
+use std::alloc::AllocError;
+use trials::entries::Entries;
 
-// How many cuts the last listing said that it wrote; and the most that any output lent to a listing takes.
-const LAST: u64 = 18525;
-
-const MOST_CUTS: u64 = 64;
-
-// A byte that the last call wrote, or left.
-pub(crate) fn written(book: &Book, i: u64) -> u64 {
-    cell(book, wrapping_add_u64(WRITTEN, i))
-}
-
-// How many of the output's first bytes are others than those that the listing through a lent place left in its output.
-fn unlike(book: &Book, to: u64) -> u64 {
-    let mut count: u64 = 0;
-    let mut i: u64 = 0;
-    while i < to {
-        if written(book, i) != cell(book, wrapping_add_u64(WRITTEN_MOVING, i)) {
-            count = wrapping_add_u64(count, 1);
-        }
-        i += 1;
-    }
-    count
-}
-
-// How many bytes of the output from one index up to another are not as they were before the call.
-fn touched(book: &Book, from: u64, to: u64) -> u64 {
-    let mut count: u64 = 0;
-    let mut i = from;
-    while i < to {
-        if written(book, i) != wide(STAYS) {
-            count = wrapping_add_u64(count, 1);
-        }
-        i += 1;
-    }
-    count
-}
-
-// What stands behind the bytes written, up to eight bytes behind what was lent, is as it was.
-pub(crate) fn compare_rest(book: &mut Book, count: u64, length: u64) {
-    let bytes = touched(book, count, wrapping_add_u64(length, 8));
-    same(book, REST, 0, bytes);
-}
-
-// What is listed: interval p, of so many cuts by the second lister, which stand in a list of the book, into outputs of so many
-// bytes.
+// What a call said, and what it left in the output that it was lent.
 #[derive(Clone, Copy)]
-pub(crate) struct Plan {
-    pub p: u64,
-    pub list: u64,
-    pub total: u64,
-    pub length: u64,
+pub(crate) struct Answer {
+    pub said: Said,
+    pub output: Output,
+}
+
+// One call on a store.
+pub(crate) fn ask_store(store: &Lent, asked: Call, length: usize) -> Answer {
+    let mut output = Output::new(length);
+    let said = ask_library(store.trace(), asked, output.lent());
+    Answer { said, output }
+}
+
+// What stands behind the cuts written, up to eight bytes behind what was lent, is as it was.
+pub(crate) fn compare_rest(
+    run: &mut Run,
+    output: &Output,
+    written: usize,
+) -> Result<(), AllocError> {
+    run.same(Kind::Rests, true, output.stays_behind(written))
+}
+
+// Cuts that were written against those that are wanted.
+pub(crate) fn compare_cuts(
+    run: &mut Run,
+    want: &[Entries],
+    got: &[Entries],
+) -> Result<(), AllocError> {
+    for (want, got) in want.iter().zip(got) {
+        run.same(Kind::Cuts, *want, *got)?;
+    }
+    Ok(())
+}
+
+// What is said through a lent place, where the place then stands and each byte of the output are as `list` has them.
+fn compare_moving(run: &mut Run, want: &Answer, got: &Answer) -> Result<(), AllocError> {
+    run.same(Kind::Moving, want.said.word, got.said.word)?;
+    run.same(Kind::Moving, want.said.number, got.said.number)?;
+    run.same_place(Kind::Moving, want.said.place, got.said.place)?;
+    run.same(Kind::Moving, true, want.output.is_like(&got.output))
+}
+
+// A call on a store. A listing is made both ways.
+pub(crate) fn ask_both(
+    run: &mut Run,
+    store: &Lent,
+    asked: Call,
+    length: usize,
+) -> Result<Answer, AllocError> {
+    let answer = ask_store(store, asked, length);
+    if let Call::List(position, place) = asked {
+        let moving = ask_store(store, Call::Move(position, place), length);
+        compare_moving(run, &answer, &moving)?;
+    }
+    Ok(answer)
+}
+
+// What is listed: an interval of a store, its cuts by the second lister, and how many bytes are lent.
+#[derive(Clone, Copy)]
+pub(crate) struct Plan<'a> {
+    pub store: &'a Lent,
+    pub position: Position,
+    pub cuts: &'a [Entries],
+    pub length: usize,
 }
 
 // How far a listing has come: behind so many cuts, and the place.
 #[derive(Clone, Copy)]
 pub(crate) struct Stand {
-    pub seen: u64,
-    pub begun: bool,
-    pub cut: u64,
+    pub seen: usize,
+    pub place: Place,
 }
 
 // Not begun, with a cut that no trace has.
-pub(crate) fn nowhere() -> Stand {
-    Stand {
-        seen: 0,
+const NOWHERE: Stand = Stand {
+    seen: 0,
+    place: Place {
         begun: false,
-        cut: 18446744073709551615,
+        cut: Cut { counts: [255; 8] },
+    },
+};
+
+// The place behind so many cuts more (rule 30).
+fn moved(plan: Plan, from: Stand, count: usize) -> Stand {
+    let seen = from.seen.saturating_add(count);
+    match plan.cuts.get(seen.saturating_sub(1)) {
+        Some(cut) if 0 < count => Stand {
+            seen,
+            place: place_behind(*cut),
+        },
+        _ => from,
     }
-}
-
-pub(crate) fn fewer(a: u64, b: u64) -> u64 {
-    if a < b { a } else { b }
-}
-
-pub(crate) fn no_question() -> Asking {
-    Asking { question: 0, k: 0 }
-}
-
-fn request_at(call: u64, plan: Plan, stand: Stand) -> Request {
-    Request {
-        call,
-        p: plan.p,
-        last: plan.p,
-        begun: stand.begun,
-        cut: stand.cut,
-        length: plan.length,
-        asking: no_question(),
-    }
-}
-
-pub(crate) fn word_at(seen: u64, total: u64) -> u64 {
-    if seen < total { MORE } else { DONE }
-}
-
-// A cut that the last call wrote.
-fn written_cut(book: &Book, i: u64) -> u64 {
-    let from = 8 * (i % 65536);
-    let mut cut: u64 = 0;
-    let mut j: u64 = 0;
-    while j < 8 {
-        let next = written(book, wrapping_add_u64(from, j));
-        cut = (cut % 72057594037927936) * 256 + next % 256;
-        j += 1;
-    }
-    cut
-}
-
-// The cuts in the output from one on, against those of a list from `seen` on.
-pub(crate) fn compare_cuts(book: &mut Book, from: u64, list: u64, seen: u64, count: u64) {
-    let mut i: u64 = 0;
-    while i < count {
-        let want = listed(book, list, wrapping_add_u64(seen, i));
-        let got = written_cut(book, wrapping_add_u64(from, i));
-        same(book, CUTS, want, got);
-        i += 1;
-    }
-}
-
-// The place behind so many cuts (rule 30).
-fn moved(book: &Book, plan: Plan, from: Stand, count: u64) -> Stand {
-    if count == 0 {
-        return from;
-    }
-    let seen = wrapping_add_u64(from.seen, count);
-    Stand {
-        seen,
-        begun: true,
-        cut: listed(book, plan.list, wrapping_sub_u64(seen, 1)),
-    }
-}
-
-pub(crate) fn number_of(b: bool) -> u64 {
-    if b { 1 } else { 0 }
-}
-
-// The request through a lent place: what is said, where the place then stands and each byte of the output are as `list` has them.
-fn compare_moving(book: &mut Book, request: Request, want: Said) {
-    let moving = Request {
-        call: MOVE,
-        p: request.p,
-        last: request.last,
-        begun: request.begun,
-        cut: request.cut,
-        length: request.length,
-        asking: no_question(),
-    };
-    let got = ask_store(book, moving);
-    same(book, MOVING, want.word, got.word);
-    same(book, MOVING, want.number, got.number);
-    same(book, MOVING, number_of(want.begun), number_of(got.begun));
-    same(book, MOVING, want.cut, got.cut);
-    let bytes = unlike(book, wrapping_add_u64(request.length, 8));
-    same(book, MOVING, 0, bytes);
-}
-
-// A call on the store that is lent. A listing is made both ways.
-pub(crate) fn ask_library(book: &mut Book, request: Request) -> Said {
-    let said = ask_store(book, request);
-    if request.call == LIST {
-        compare_moving(book, request, said);
-    }
-    said
-}
-
-// The cuts that the library's last call wrote, behind those of the day that it listed before.
-fn keep_cuts(book: &mut Book, count: u64) {
-    let from = cell(book, OWN_COUNT);
-    let mut i: u64 = 0;
-    while i < count {
-        let cut = written_cut(book, i);
-        put_listed(book, OWN, wrapping_add_u64(from, i), cut);
-        i += 1;
-    }
-    put(book, OWN_COUNT, wrapping_add_u64(from, count));
-}
-
-fn same_place(book: &mut Book, want: Stand, got: Said) {
-    same(book, LISTINGS, number_of(want.begun), number_of(got.begun));
-    same(book, LISTINGS, want.cut, got.cut);
 }
 
 // What a listing said and wrote; where it stands behind it.
-fn judge_listing(book: &mut Book, plan: Plan, from: Stand, got: Said) -> Stand {
-    let count = fewer(plan.length / 8, wrapping_sub_u64(plan.total, from.seen));
-    let after = moved(book, plan, from, count);
-    same_word(book, LISTINGS, word_at(after.seen, plan.total), got.word);
-    same(book, LISTINGS, count, got.number);
-    same_place(book, after, got);
-    compare_cuts(book, 0, plan.list, from.seen, count);
-    compare_rest(book, 8 * (count % 65536), plan.length);
-    after
+fn judge_listing(
+    run: &mut Run,
+    plan: Plan,
+    from: Stand,
+    got: &Answer,
+) -> Result<Stand, AllocError> {
+    let total = plan.cuts.len();
+    let count = total.saturating_sub(from.seen).min(plan.length / 8);
+    let after = moved(plan, from, count);
+    let want = front(behind(plan.cuts, from.seen), count);
+    run.said(
+        Kind::Listings,
+        Word::of_rest(after.seen < total),
+        got.said.word,
+    )?;
+    run.same(Kind::Listings, count as u64, got.said.number)?;
+    run.same_place(Kind::Listings, after.place, got.said.place)?;
+    compare_cuts(run, want, got.output.cuts())?;
+    compare_rest(run, &got.output, count)?;
+    Ok(after)
 }
 
 // One listing call: how many cuts it writes and which, what it says, which bytes stay, and where the place stands behind it.
-pub(crate) fn list_once(book: &mut Book, plan: Plan, from: Stand) -> Stand {
-    let got = ask_library(book, request_at(LIST, plan, from));
-    put(book, LAST, got.number);
-    judge_listing(book, plan, from, got)
+fn list_once(run: &mut Run, plan: Plan, from: Stand) -> Result<(Stand, Answer), AllocError> {
+    let asked = Call::List(plan.position, from.place);
+    let got = ask_both(run, plan.store, asked, plan.length)?;
+    let after = judge_listing(run, plan, from, &got)?;
+    Ok((after, got))
 }
+
+// More calls than any listing of this program needs.
+const MOST_CALLS: usize = 65536;
 
 // Call after call from a place that is not begun, each from the place that the last one left, until the interval is done; and
 // one call more, when nothing remains. The cuts that the library wrote are kept.
-pub(crate) fn list_through(book: &mut Book, plan: Plan) {
-    let mut stand = nowhere();
-    let mut calls: u64 = 0;
-    while calls < 65536 {
-        let over = plan.total <= stand.seen;
-        stand = list_once(book, plan, stand);
-        keep_cuts(book, fewer(cell(book, LAST), MOST_CUTS));
+pub(crate) fn list_through(
+    run: &mut Run,
+    plan: Plan,
+    listed: &mut Vec<Entries>,
+) -> Result<(), AllocError> {
+    let mut stand = NOWHERE;
+    for _ in 0..MOST_CALLS {
+        let over = plan.cuts.len() <= stand.seen;
+        let (after, got) = list_once(run, plan, stand)?;
+        listed.extend_from_slice(front(got.output.cuts(), got.said.number as usize))?;
+        stand = after;
         if over {
-            return;
+            break;
         }
-        calls += 1;
+    }
+    Ok(())
+}
+
+// From a place: the cuts behind it where it is in the interval, and else it is refused.
+pub(crate) fn list_from(run: &mut Run, plan: Plan, place: Place) -> Result<(), AllocError> {
+    match plan.cuts.iter().position(|cut| *cut == place.cut.counts) {
+        None => list_refused(run, plan, place, Refusal::PlaceOutside),
+        Some(index) => {
+            let seen = index.saturating_add(1);
+            list_once(run, plan, Stand { seen, place })?;
+            Ok(())
+        }
     }
 }
 
 // A listing call that is refused: nothing is written, no byte and no place changes.
-pub(crate) fn list_refused(book: &mut Book, plan: Plan, from: Stand, number: u64) {
-    let got = ask_library(book, request_at(LIST, plan, from));
-    same_word(book, LISTINGS, number, got.word);
-    same(book, LISTINGS, 0, got.number);
-    same_place(book, from, got);
-    compare_rest(book, 0, plan.length);
+pub(crate) fn list_refused(
+    run: &mut Run,
+    plan: Plan,
+    place: Place,
+    why: Refusal,
+) -> Result<(), AllocError> {
+    let asked = Call::List(plan.position, place);
+    let got = ask_both(run, plan.store, asked, plan.length)?;
+    run.refused(Kind::Listings, why, got.said.word)?;
+    run.same(Kind::Listings, 0, got.said.number)?;
+    run.same_place(Kind::Listings, place, got.said.place)?;
+    compare_rest(run, &got.output, 0)
 }
 
-pub(crate) fn compare_count(book: &mut Book, plan: Plan) -> u64 {
-    let got = ask_store(book, request_at(COUNT, plan, nowhere()));
-    same_word(book, COUNTS, 0, got.word);
-    same(book, COUNTS, plan.total, got.number);
-    got.number
+pub(crate) fn compare_count(run: &mut Run, plan: Plan) -> Result<u64, AllocError> {
+    let got = ask_store(plan.store, Call::Count(plan.position), 0).said;
+    run.said(Kind::Counts, Word::Passed, got.word)?;
+    run.same(Kind::Counts, plan.cuts.len() as u64, got.number)?;
+    Ok(got.number)
 }
 
-pub(crate) fn request_asking(asking: Asking, p: u64) -> Request {
-    Request {
-        call: ASK,
-        p,
-        last: p,
-        begun: false,
-        cut: 0,
-        length: 0,
-        asking,
-    }
-}
-
-// A question put to interval p, or to the whole trace, whose cuts by the second lister are the plan's.
-pub(crate) fn compare_answer(book: &mut Book, plan: Plan, asking: Asking) {
-    let got = ask_store(book, request_asking(asking, plan.p));
-    let first = first_meeting(book, plan.list, plan.total, asking);
-    if plan.total <= first {
-        same_word(book, ANSWERS, NONE, got.word);
-        same(book, ANSWERS, 0, got.cut);
-        return;
-    }
-    same_word(book, ANSWERS, FOUND, got.word);
-    same(book, ANSWERS, listed(book, plan.list, first), got.cut);
+// A question put to cuts of the store, which by the second lister are these.
+pub(crate) fn compare_answer(
+    run: &mut Run,
+    store: &Lent,
+    range: Range,
+    cuts: &[Entries],
+    question: Question,
+) -> Result<(), AllocError> {
+    let got = ask_store(store, Call::Ask(Job { question, range }), 0).said;
+    let first = first_meeting(&run.day, cuts, question);
+    let word = if first.is_some() {
+        Word::Found
+    } else {
+        Word::NoCut
+    };
+    run.said(Kind::Answers, word, got.word)?;
+    run.same(
+        Kind::Answers,
+        first.unwrap_or(NO_PLACE.cut.counts),
+        got.place.cut.counts,
+    )
 }

@@ -1,107 +1,95 @@
 // The edge sizes: no events, one tablet full, all tablets full.
-use crate::book::{Row, add, clear, events};
-use crate::calls::{COUNT, Request};
-use crate::cells::{Book, alone, entry, with_entry};
-use crate::compare::no_question;
-use crate::lend::{ask_store, lend_sound};
-use crate::notes::{FIXED, same, same_word};
+use crate::calls::{Call, Word};
+use crate::compare::ask_store;
+use crate::day::Day;
+use crate::generate::tablet_of;
+use crate::lend::Lent;
+use crate::notes::Kind;
 use crate::offers::{offer, open};
-use crate::second::follow_number;
+use crate::run::Run;
+use crate::second::follow;
 use crate::traces::compare_trace;
-use std::num::wrapping_add_u64;
+use model::{Event, Position, Refusal, Tablet};
+use std::alloc::AllocError;
+use trials::entries::{entry, with_entry};
 
-fn counted(book: &mut Book, p: u64) -> u64 {
-    let request = Request {
-        call: COUNT,
-        p,
-        last: p,
-        begun: false,
-        cut: 0,
-        length: 0,
-        asking: no_question(),
-    };
-    let got = ask_store(book, request);
-    got.number
+fn counted(store: &Lent, position: u16) -> u64 {
+    ask_store(store, Call::Count(Position(position)), 0)
+        .said
+        .number
 }
 
-// An event that is refused, by document 01's number; the store refuses it too.
-fn refuse_event(book: &mut Book, event: Row, number: u64) {
-    same_word(
-        book,
-        FIXED,
-        number,
-        follow_number(book, event.tablet, event.clock),
-    );
-    offer(book, event);
+// An event of which document 01 says what becomes of it; the store says the same.
+fn offer_known(run: &mut Run, event: Event, known: Result<(), Refusal>) -> Result<(), AllocError> {
+    let own = follow(&run.day, event);
+    run.said(Kind::Fixed, Word::of_test(known), Word::of_test(own))?;
+    offer(run, event)
 }
 
 // 1 to 8 tablets open, 0 and 9 do not; and each number of tablets without events has one cut.
-pub(crate) fn try_empty(book: &mut Book) {
-    open(book, 0);
-    open(book, 9);
-    open(book, 255);
-    let mut n: u64 = 8;
-    while 0 < n {
-        open(book, n);
-        let total = compare_trace(book);
-        same(book, FIXED, 1, total);
-        n -= 1;
+pub(crate) fn try_empty(run: &mut Run) -> Result<(), AllocError> {
+    for tablets in [0, 9, 255] {
+        open(run, tablets)?;
     }
+    for tablets in (1..=8).rev() {
+        open(run, tablets)?;
+        let compared = compare_trace(run)?;
+        run.same(Kind::Fixed, 1, compared.total)?;
+    }
+    Ok(())
 }
 
-// So many events of the tablets in turn, each knowing all before it.
-fn add_chain(book: &mut Book, n: u64, most: u64) {
-    clear(book, n);
-    let mut clock: u64 = 0;
-    let mut placed: u64 = 0;
-    while placed < most {
-        let column = if n == 1 { 0 } else { placed % 8 };
-        clock = with_entry(clock, column, wrapping_add_u64(entry(clock, column), 1));
-        let event = Row {
-            tablet: wrapping_add_u64(column, 1),
-            clock,
-            held: placed,
-        };
-        add(book, event);
-        placed += 1;
-    }
-}
-
-// Each tablet takes 254 events, and the next is refused 8.
-fn offer_full(book: &mut Book, n: u64) {
-    let mut tablet: u64 = 0;
-    while tablet < n {
-        tablet += 1;
-        let event = Row {
+// A day with so many events of the tablets in turn, each knowing all before it.
+fn chain(run: &mut Run, tablets: u8, most: u16) -> Result<(), AllocError> {
+    run.day = Day::new(run.alloc, tablets);
+    let mut clock = [0; 8];
+    for held in 0..most {
+        let column = usize::from(held % u16::from(tablets.max(1)));
+        clock = with_entry(clock, column, entry(&clock, column).saturating_add(1));
+        let tablet = tablet_of(column);
+        run.day.add(Event {
             tablet,
-            clock: 18446744073709551615,
+            clock,
+            held,
+        })?;
+    }
+    Ok(())
+}
+
+// Each tablet has 254 events, and the next is refused.
+fn offer_full(run: &mut Run, tablets: u8) -> Result<(), AllocError> {
+    for tablet in 1..=tablets {
+        let event = Event {
+            tablet: Tablet(tablet),
+            clock: [255; 8],
             held: 0,
         };
-        refuse_event(book, event, 8);
+        offer_known(run, event, Err(Refusal::TabletFull))?;
     }
+    Ok(())
 }
 
 // One tablet with 254 events, every interval of it.
-pub(crate) fn try_one_full(book: &mut Book) {
-    add_chain(book, 1, 253);
-    let last = Row {
-        tablet: 1,
-        clock: alone(0, 254),
-        held: 65535,
+pub(crate) fn try_one_full(run: &mut Run) -> Result<(), AllocError> {
+    chain(run, 1, 253)?;
+    let last = Event {
+        tablet: Tablet(1),
+        clock: [254, 0, 0, 0, 0, 0, 0, 0],
+        held: u16::MAX,
     };
-    refuse_event(book, last, 0);
-    offer_full(book, 1);
-    let total = compare_trace(book);
-    same(book, FIXED, 255, total);
+    offer_known(run, last, Ok(()))?;
+    offer_full(run, 1)?;
+    let compared = compare_trace(run)?;
+    run.same(Kind::Fixed, 255, compared.total)
 }
 
 // A full store, 8 times 254 events: some counts, and no event more.
-pub(crate) fn try_all_full(book: &mut Book) {
-    add_chain(book, 8, 2032);
-    lend_sound(book);
-    let first = counted(book, 1);
-    let last = counted(book, 2032);
-    same(book, FIXED, 2032, events(book));
-    same(book, FIXED, 2, wrapping_add_u64(first, last));
-    offer_full(book, 8);
+pub(crate) fn try_all_full(run: &mut Run) -> Result<(), AllocError> {
+    chain(run, 8, 2032)?;
+    let store = Lent::new(&run.day);
+    let ends = counted(&store, 1).saturating_add(counted(&store, 2032));
+    let last = run.day.last();
+    run.same(Kind::Fixed, 2032, last)?;
+    run.same(Kind::Fixed, 2, ends)?;
+    offer_full(run, 8)
 }

@@ -2,11 +2,10 @@
 // of what was compared; a difference is printed with its trace, so that the stored output matches only where all agree.
 #![tactic(auto)]
 
-mod book;
 mod calls;
-mod cells;
 mod compare;
 mod damaged;
+mod day;
 mod fixed;
 mod gathering;
 mod generate;
@@ -14,60 +13,64 @@ mod lend;
 mod moving;
 mod notes;
 mod offers;
-mod print;
+mod output;
+mod parts;
+mod run;
 mod second;
-mod summary;
 mod traces;
 
-use book::events;
-use cells::{Book, put};
 use damaged::{change_byte, refuse_questions, refuse_records};
 use fixed::{try_all_full, try_empty, try_one_full};
-use notes::SEED;
 use offers::{offer_drawn, open};
-use summary::say_summary;
+use run::Run;
+use std::alloc::{AllocError, Global};
+use std::io;
 use traces::{compare_other_order, compare_trace};
 
-// The traces that are drawn: 8 numbers of tablets, 30 times.
-const DRAWN: u64 = 240;
-
 // What is refused of a day's store.
-fn try_refusals(book: &mut Book) {
-    refuse_records(book);
-    refuse_questions(book);
-    if events(book) != 0 {
-        change_byte(book);
+fn try_refusals(run: &mut Run) -> Result<(), AllocError> {
+    refuse_records(run)?;
+    refuse_questions(run)?;
+    if run.day.last() != 0 {
+        change_byte(run)?;
     }
+    Ok(())
 }
 
-// One drawn trace, in two orders: tablets, events and the talk between tablets go by its number.
-fn try_trace(book: &mut Book, turn: u64) {
-    open(book, turn % 8 + 1);
-    offer_drawn(book, turn / 8 % 30, turn / 8 % 5);
-    try_refusals(book);
-    compare_trace(book);
-    compare_other_order(book);
+// One drawn trace, in two orders.
+fn try_trace(run: &mut Run, tablets: u8, most: usize, talk: usize) -> Result<(), AllocError> {
+    open(run, tablets)?;
+    offer_drawn(run, most, talk)?;
+    try_refusals(run)?;
+    let compared = compare_trace(run)?;
+    compare_other_order(run, &compared)
 }
 
-fn try_traces(book: &mut Book) {
-    let mut turn: u64 = 0;
-    while turn < DRAWN {
-        try_trace(book, turn);
-        turn += 1;
+// Traces of each number of tablets, with up to 29 events and five measures of talk between tablets.
+fn try_traces(run: &mut Run) -> Result<(), AllocError> {
+    for most in 0..30 {
+        for tablets in 1..=8 {
+            try_trace(run, tablets, most, most % 5)?;
+        }
     }
+    Ok(())
 }
 
 // The edge sizes: no events, one tablet full, all tablets full.
-fn try_edges(book: &mut Book) {
-    try_empty(book);
-    try_one_full(book);
-    try_all_full(book);
+fn try_edges(run: &mut Run) -> Result<(), AllocError> {
+    try_empty(run)?;
+    try_one_full(run)?;
+    try_all_full(run)
 }
 
-fn main() {
-    let mut book = [0u64; 69632];
-    put(&mut book, SEED, 20260);
-    try_edges(&mut book);
-    try_traces(&mut book);
-    say_summary(&book);
+fn try_all(alloc: Global) -> Result<Run, AllocError> {
+    let mut run = Run::new(alloc, 20260);
+    try_edges(&mut run)?;
+    try_traces(&mut run)?;
+    Ok(run)
+}
+
+fn main(rt: HostRuntime) -> io::Result<()> {
+    let run = try_all(rt.alloc())?;
+    print!(rt; "{}", run.notes)
 }

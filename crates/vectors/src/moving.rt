@@ -1,27 +1,22 @@
-// The listing through a lent place, called as one by value: it lends a place of its own, and promises what `list` does.
+// The listing through a lent place, called as one by value: it lends a place of its own and gives it back, refused or not, and
+// promises what `list` does.
 ghost use Rattle.std.specs.Prelude.{◌≡◌};
-ghost use Rattle.model.specs.Store.{store_of};
-ghost use Rattle.cuts.specs.Listing.{listed, listing};
+ghost use Rattle.store.specs.Outcomes.{store_in};
+ghost use Rattle.cuts.specs.Listing.{listing, moved};
 
-use cuts::Listed;
-use model::{Place, Position, Record};
+use cuts::{Moved, list_moving};
+use model::{Place, Position, Refusal};
+use store::Trace;
 
 pub(crate) fn list_by_moving(
-    record: Record,
-    clocks: &[u8],
-    held: &[u16],
-    order: &[u8],
+    trace: Trace,
     position: Position,
     place: Place,
     out: &mut [u8],
-) -> Listed
-    ensures { listed result out.new ≡ listing (store_of «record» clocks.now held.now order.now) position.0 place out.old }
+) -> (Result<Moved, Refusal>, Place)
+    ensures { moved result.0 result.1 out.new ≡ listing (store_in trace.entry) position.0 place out.old }
 {
     let mut at = place;
-    let moved = cuts::list_moving(record, clocks, held, order, position, &mut at, out);
-    Listed {
-        answer: moved.answer,
-        written: moved.written,
-        place: at,
-    }
+    let moved = list_moving(trace, position, &mut at, out);
+    (moved, at)
 }

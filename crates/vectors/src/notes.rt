@@ -1,75 +1,135 @@
 // What was compared: a counter for each kind of comparison and for each refusal number, so that a run that compares nothing
-// shows. A difference is printed at once, with its trace.
-use crate::cells::{Book, cell, put};
-use crate::print::{say_difference, say_trace};
-use std::num::wrapping_add_u64;
+// shows. A difference is noted with its trace.
+use std::alloc::{AllocError, Global};
+use std::fmt;
+use trials::Counts;
 
-// The generator's state, and what was met.
-pub(crate) const SEED: u64 = 0;
-
-pub(crate) const DIFFERENCES: u64 = 1;
-
-pub(crate) const TRACES: u64 = 2;
-
-pub(crate) const EVENTS: u64 = 3;
-
-pub(crate) const VECTORS: u64 = 4;
-
-// The kinds of comparison.
-pub(crate) const OFFERS: u64 = 8;
-
-pub(crate) const CELLS: u64 = 9;
-
-pub(crate) const CUTS: u64 = 10;
-
-pub(crate) const LISTINGS: u64 = 11;
-
-pub(crate) const REST: u64 = 12;
-
-pub(crate) const GATHERED: u64 = 13;
-
-pub(crate) const COUNTS: u64 = 14;
-
-pub(crate) const SUMS: u64 = 15;
-
-pub(crate) const ANSWERS: u64 = 16;
-
-pub(crate) const ORDERS: u64 = 17;
-
-pub(crate) const REFUSALS: u64 = 18;
-
-pub(crate) const FIXED: u64 = 19;
-
-pub(crate) const MOVING: u64 = 20;
-
-// How often each refusal number was expected and given: number r at 32 + r.
-pub(crate) const MET: u64 = 32;
-
-pub(crate) fn add_note(book: &mut Book, note: u64, more: u64) {
-    let sum = wrapping_add_u64(cell(book, note), more);
-    put(book, note, sum);
+// The kinds of comparison, in the order in which the summary has them.
+#[derive(Clone, Copy)]
+pub(crate) enum Kind {
+    Offers,
+    Cells,
+    Cuts,
+    Listings,
+    Moving,
+    Rests,
+    Gathered,
+    Counts,
+    Sums,
+    Answers,
+    Orders,
+    Refusals,
+    Fixed,
 }
 
-pub(crate) fn same(book: &mut Book, kind: u64, want: u64, got: u64) {
-    add_note(book, kind, 1);
-    if want != got {
-        add_note(book, DIFFERENCES, 1);
-        say_difference(kind, want, got);
-        say_where(book);
+const KINDS: [Kind; 13] = [
+    Kind::Offers,
+    Kind::Cells,
+    Kind::Cuts,
+    Kind::Listings,
+    Kind::Moving,
+    Kind::Rests,
+    Kind::Gathered,
+    Kind::Counts,
+    Kind::Sums,
+    Kind::Answers,
+    Kind::Orders,
+    Kind::Refusals,
+    Kind::Fixed,
+];
+
+impl fmt::Display for Kind {
+    fn fmt<W: fmt::Write>(&self, f: &mut fmt::Formatter<W>) -> fmt::Result {
+        let name = match self {
+            Kind::Offers => "offers",
+            Kind::Cells => "cells",
+            Kind::Cuts => "cuts",
+            Kind::Listings => "listings",
+            Kind::Moving => "moving",
+            Kind::Rests => "rests",
+            Kind::Gathered => "gathered",
+            Kind::Counts => "counts",
+            Kind::Sums => "sums",
+            Kind::Answers => "answers",
+            Kind::Orders => "orders",
+            Kind::Refusals => "refusals",
+            Kind::Fixed => "fixed",
+        };
+        f.write_str(name)
     }
 }
 
-// The trace that was tried: behind the first hundred differences.
-fn say_where(book: &Book) {
-    if cell(book, DIFFERENCES) < 101 {
-        say_trace(book);
+#[derive(Drop)]
+pub(crate) struct Notes {
+    traces: u64,
+    offered: u64,
+    vectors: u64,
+    // By kind.
+    compared: Counts<13>,
+    // How often each refusal was expected and given, by its number.
+    refused: Counts<16>,
+    differences: u64,
+    // All differences, the first hundred with their traces.
+    log: String,
+}
+
+impl Notes {
+    pub(crate) fn new(alloc: Global) -> Notes {
+        Notes {
+            traces: 0,
+            offered: 0,
+            vectors: 0,
+            compared: Counts::new(),
+            refused: Counts::new(),
+            differences: 0,
+            log: String::new(alloc),
+        }
+    }
+
+    pub(crate) fn add_trace(&mut self, vectors: u64) {
+        self.traces = self.traces.saturating_add(1);
+        self.vectors = self.vectors.saturating_add(vectors);
+    }
+
+    pub(crate) fn add_offer(&mut self) {
+        self.offered = self.offered.saturating_add(1);
+    }
+
+    pub(crate) fn add_compared(&mut self, kind: Kind) {
+        self.compared.add(kind as usize);
+    }
+
+    pub(crate) fn add_refused(&mut self, number: u8) {
+        self.refused.add(usize::from(number));
+    }
+
+    pub(crate) fn add_difference(
+        &mut self,
+        difference: impl fmt::Display + Drop,
+        trace: &impl fmt::Display,
+    ) -> Result<(), AllocError> {
+        self.differences = self.differences.saturating_add(1);
+        writeln!(self.log, "DIFFERENT {difference}")?;
+        if self.differences <= 100 {
+            write!(self.log, "{trace}")?;
+        }
+        Ok(())
     }
 }
 
-// The same of what a call says: a refusal number, 0 for none, or a number from 200 on for a word.
-pub(crate) fn same_word(book: &mut Book, kind: u64, want: u64, got: u64) {
-    same(book, kind, want, got);
-    if want == got && want < 16 {
-        add_note(book, MET + want % 16, 1);
+// The differences; then what the run compared, one line for each kind, and how often each refusal number was expected and given.
+impl fmt::Display for Notes {
+    fn fmt<W: fmt::Write>(&self, f: &mut fmt::Formatter<W>) -> fmt::Result {
+        write!(f, "{}", self.log)?;
+        writeln!(f, "traces={}", self.traces)?;
+        writeln!(f, "events offered={}", self.offered)?;
+        writeln!(f, "vectors={}", self.vectors)?;
+        for kind in KINDS {
+            writeln!(f, "{kind}={}", self.compared.at(kind as usize))?;
+        }
+        for number in 1..16 {
+            writeln!(f, "refused {number}={}", self.refused.at(number))?;
+        }
+        writeln!(f, "differences={}", self.differences)
     }
 }

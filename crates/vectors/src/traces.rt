@@ -1,24 +1,22 @@
 // Whole traces: every interval and some questions compared, the sums of counts, and the same events in another order.
-use crate::book::{
-    ALL, COPIED, COPIED_COUNT, OWN, OWN_COUNT, SOME, clear, copied_events, copied_row, copy_day,
-    events, listed, tablets, vectors,
-};
-use crate::calls::WHOLE;
-use crate::cells::{Book, cell, put};
-use crate::compare::{
-    Plan, Stand, compare_answer, compare_count, list_once, list_refused, list_through, number_of,
-};
-use crate::gathering::{compare_gathering, gathering};
-use crate::generate::{draw, draw_cut};
-use crate::lend::lend_sound;
-use crate::notes::{ORDERS, SUMS, TRACES, VECTORS, add_note, same};
+use crate::calls::place_behind;
+use crate::compare::{Plan, compare_answer, compare_count, list_from, list_refused, list_through};
+use crate::day::Day;
+use crate::gathering::compare_gathering;
+use crate::generate::draw_cut;
+use crate::lend::Lent;
+use crate::notes::Kind;
 use crate::offers::offer;
-use crate::second::{Asking, SET, index_of, list_all, list_interval, ready, sum_held};
-use std::num::{wrapping_add_u64, wrapping_sub_u64};
+use crate::run::{Draw, Run};
+use crate::second::{Lists, ready, sum_held};
+use model::{Position, Question, Range, Refusal};
+use std::alloc::AllocError;
+use std::mem;
+use trials::entries::Entries;
 
 // The outputs that are lent: one cut, one and a rest, two, three, and many.
-fn draw_length(book: &mut Book) -> u64 {
-    match draw(book, 5) {
+fn draw_length(draw: &mut Draw) -> usize {
+    match draw.below(5) {
         0 => 8,
         1 => 15,
         2 => 16,
@@ -27,188 +25,162 @@ fn draw_length(book: &mut Book) -> u64 {
     }
 }
 
-// Two to the number of tablets.
-pub(crate) fn sets(n: u64) -> u64 {
-    let mut power: u64 = 1;
-    let mut j: u64 = 0;
-    while j < n {
-        power = (power % 65536) * 2;
-        j += 1;
-    }
-    power
+// A set of tablets that is not empty and names none above n.
+fn draw_set(run: &mut Run) -> u8 {
+    let others = 8u8.saturating_sub(run.day.tablets);
+    let all = u8::MAX.checked_shr(u32::from(others)).unwrap_or(0);
+    run.draw.below(usize::from(all)) as u8 + 1
 }
 
-// A question: a sum that some cut of a list has, or one more, at least or exactly; or a set of tablets that is not empty and
-// names none above n.
-fn draw_asking(book: &mut Book, list: u64, total: u64) -> Asking {
-    let question = draw(book, 3);
-    if question == SET {
-        let least = draw(book, wrapping_sub_u64(sets(tablets(book)), 1));
-        return Asking {
-            question,
-            k: wrapping_add_u64(least, 1),
-        };
-    }
-    let some = draw(book, total);
-    let sum = sum_held(book, listed(book, list, some));
-    Asking {
-        question,
-        k: wrapping_add_u64(sum, draw(book, 2)),
+// A sum that some cut has, or one more.
+fn draw_sum(run: &mut Run, cuts: &[Entries]) -> u32 {
+    let index = run.draw.below(cuts.len());
+    let sum = cuts.get(index).map_or(0, |cut| sum_held(&run.day, cut));
+    sum.saturating_add(run.draw.below(2) as u32)
+}
+
+fn draw_question(run: &mut Run, cuts: &[Entries]) -> Question {
+    match run.draw.below(3) {
+        0 => Question::AtLeast(draw_sum(run, cuts)),
+        1 => Question::Exactly(draw_sum(run, cuts)),
+        _ => Question::All(draw_set(run)),
     }
 }
 
-fn ask_some(book: &mut Book, plan: Plan, most: u64) {
-    let mut turns: u64 = 0;
-    while turns < most {
-        let asking = draw_asking(book, plan.list, plan.total);
-        compare_answer(book, plan, asking);
-        turns += 1;
+// Questions put to cuts of a store.
+fn ask_some(
+    run: &mut Run,
+    store: &Lent,
+    range: Range,
+    cuts: &[Entries],
+    count: usize,
+) -> Result<(), AllocError> {
+    for _ in 0..count {
+        let question = draw_question(run, cuts);
+        compare_answer(run, store, range, cuts, question)?;
     }
+    Ok(())
 }
 
-fn with_length(plan: Plan, length: u64) -> Plan {
-    Plan {
-        p: plan.p,
-        list: plan.list,
-        total: plan.total,
-        length,
-    }
-}
-
-// From a place drawn near the interval: the cuts behind it, or refused 10 where it is not in the interval; and refused 14
-// before that where not even one cut fits.
-fn list_from_drawn(book: &mut Book, plan: Plan) {
-    let cut = draw_cut(book);
-    let at = index_of(book, plan.list, plan.total, cut);
-    let from = Stand {
-        seen: wrapping_add_u64(at, 1),
-        begun: true,
-        cut,
+// From a place drawn near the interval: the cuts behind it, or refused where it is not in the interval; and refused before that
+// where not even one cut fits.
+fn list_from_drawn(run: &mut Run, plan: Plan) -> Result<(), AllocError> {
+    let place = place_behind(draw_cut(&mut run.draw, &run.day));
+    let short = Plan {
+        length: run.draw.below(8),
+        ..plan
     };
-    let short = with_length(plan, draw(book, 8));
-    list_refused(book, short, from, 14);
-    if at < plan.total {
-        list_once(book, plan, from);
-    } else {
-        list_refused(book, plan, from, 10);
-    }
+    list_refused(run, short, place, Refusal::ShortOutput)?;
+    list_from(run, plan, place)
 }
 
 // One interval: what the library lists, gathers, answers and counts. The count is handed on to be summed.
-fn compare_interval(book: &mut Book, plan: Plan, all: u64) -> u64 {
-    list_through(book, plan);
-    list_from_drawn(book, plan);
-    compare_gathering(book, gathering(plan.p, plan.p, plan.length), all);
-    ask_some(book, plan, 2);
-    compare_count(book, plan)
-}
-
-fn plan_of(book: &mut Book, p: u64, total: u64) -> Plan {
-    Plan {
-        p,
-        list: SOME,
-        total: list_interval(book, p, total),
-        length: draw_length(book),
-    }
+fn compare_interval(
+    run: &mut Run,
+    plan: Plan,
+    lists: &Lists,
+    listed: &mut Vec<Entries>,
+) -> Result<u64, AllocError> {
+    let position = plan.position;
+    list_through(run, plan, listed)?;
+    list_from_drawn(run, plan)?;
+    compare_gathering(run, plan.store, position.0, position.0, lists, plan.length)?;
+    ask_some(run, plan.store, Range::Interval(position), plan.cuts, 2)?;
+    compare_count(run, plan)
 }
 
 // Every interval of a trace against the second lister's; the counts have to add up to the number of all cuts.
-fn compare_intervals(book: &mut Book, total: u64) {
-    let behind = wrapping_add_u64(events(book), 1);
+fn compare_intervals(
+    run: &mut Run,
+    store: &Lent,
+    lists: &Lists,
+    listed: &mut Vec<Entries>,
+) -> Result<(), AllocError> {
     let mut sum: u64 = 0;
-    let mut p: u64 = 0;
-    while p < behind {
-        let plan = plan_of(book, p, total);
-        let count = compare_interval(book, plan, total);
-        sum = wrapping_add_u64(sum, count);
-        p += 1;
+    for (position, cuts) in (0..=run.day.last()).zip(lists.intervals.iter()) {
+        let plan = Plan {
+            store,
+            position: Position(position),
+            cuts: cuts.as_slice(),
+            length: draw_length(&mut run.draw),
+        };
+        let count = compare_interval(run, plan, lists, listed)?;
+        sum = sum.saturating_add(count);
     }
-    same(book, SUMS, total, sum);
+    run.same(Kind::Sums, lists.all.len() as u64, sum)
 }
 
 // The cuts of several intervals, one behind the other.
-fn gather_drawn(book: &mut Book, total: u64) {
-    let behind = wrapping_add_u64(events(book), 1);
-    let first = draw(book, behind);
-    let more = draw(book, wrapping_sub_u64(behind, first));
-    let length = draw_length(book);
+fn gather_drawn(run: &mut Run, store: &Lent, lists: &Lists) -> Result<(), AllocError> {
+    let intervals = usize::from(run.day.last()) + 1;
+    let first = run.draw.below(intervals);
+    let more = run.draw.below(intervals - first);
+    let length = draw_length(&mut run.draw);
     compare_gathering(
-        book,
-        gathering(first, wrapping_add_u64(first, more), length),
-        total,
-    );
+        run,
+        store,
+        first as u16,
+        (first + more) as u16,
+        lists,
+        length,
+    )
 }
 
-fn whole(total: u64) -> Plan {
-    Plan {
-        p: WHOLE,
-        list: ALL,
-        total,
-        length: 0,
+// How many cuts a day has by the second lister, and all that the library listed of it.
+#[derive(Drop)]
+pub(crate) struct Compared {
+    pub total: usize,
+    pub listed: Vec<Entries>,
+}
+
+// All that is compared of a day.
+pub(crate) fn compare_trace(run: &mut Run) -> Result<Compared, AllocError> {
+    run.notes.add_trace(run.day.vectors());
+    let store = Lent::new(&run.day);
+    let lists = Lists::new(run.alloc, &run.day)?;
+    let mut listed = Vec::new(run.alloc);
+    compare_intervals(run, &store, &lists, &mut listed)?;
+    gather_drawn(run, &store, &lists)?;
+    ask_some(run, &store, Range::Whole, lists.all.as_slice(), 8)?;
+    Ok(Compared {
+        total: lists.all.len(),
+        listed,
+    })
+}
+
+// The same events, offered in another order: always the last one that is ready.
+fn reorder(run: &mut Run, day: &Day) -> Result<(), AllocError> {
+    for _ in 0..day.last() {
+        let next = day
+            .events
+            .iter()
+            .rev()
+            .copied()
+            .find(|event| ready(&run.day, *event));
+        let Some(event) = next else {
+            break;
+        };
+        offer(run, event)?;
     }
-}
-
-// All that is compared of a day. How many cuts it has is answered, and they are left in the book.
-pub(crate) fn compare_trace(book: &mut Book) -> u64 {
-    add_note(book, TRACES, 1);
-    add_note(book, VECTORS, vectors(book));
-    lend_sound(book);
-    put(book, OWN_COUNT, 0);
-    let total = list_all(book);
-    compare_intervals(book, total);
-    gather_drawn(book, total);
-    ask_some(book, whole(total), 8);
-    total
-}
-
-// The position, in the day that was copied, of the next event of the other order: the last one that is ready. 0 for none.
-fn next_ready(book: &Book) -> u64 {
-    let mut p = copied_events(book);
-    while 0 < p {
-        let row = copied_row(book, p);
-        if ready(book, row.tablet, row.clock) {
-            return p;
-        }
-        p -= 1;
-    }
-    0
-}
-
-// The same events, offered in another order.
-fn reorder(book: &mut Book) {
-    let last = copied_events(book);
-    let mut placed: u64 = 0;
-    while placed < last {
-        let event = copied_row(book, next_ready(book));
-        offer(book, event);
-        placed += 1;
-    }
-}
-
-// Whether the library listed a cut of the day.
-fn listed_too(book: &Book, count: u64, cut: u64) -> bool {
-    index_of(book, OWN, count, cut) < count
+    Ok(())
 }
 
 // The library's lists of all intervals of the one order and of the other have the same number of cuts, and those of the one are
 // among those of the other. Each list has a cut once, as the second lister has it.
-fn compare_orders(book: &mut Book) {
-    let count = cell(book, COPIED_COUNT);
-    let again = cell(book, OWN_COUNT);
-    same(book, ORDERS, count, again);
-    let mut i: u64 = 0;
-    while i < count {
-        let found = listed_too(book, again, listed(book, COPIED, i));
-        same(book, ORDERS, 1, number_of(found));
-        i += 1;
+fn compare_orders(run: &mut Run, before: &Compared, mut again: Compared) -> Result<(), AllocError> {
+    again.listed.sort()?;
+    run.same(Kind::Orders, before.listed.len(), again.listed.len())?;
+    for cut in before.listed.iter() {
+        run.same(Kind::Orders, true, again.listed.binary_search(cut).is_ok())?;
     }
+    Ok(())
 }
 
 // The day once more, its events in another order.
-pub(crate) fn compare_other_order(book: &mut Book) {
-    copy_day(book);
-    clear(book, tablets(book));
-    reorder(book);
-    compare_trace(book);
-    compare_orders(book);
+pub(crate) fn compare_other_order(run: &mut Run, before: &Compared) -> Result<(), AllocError> {
+    let other = Day::new(run.alloc, run.day.tablets);
+    let day = mem::replace(&mut run.day, other);
+    reorder(run, &day)?;
+    let again = compare_trace(run)?;
+    compare_orders(run, before, again)
 }

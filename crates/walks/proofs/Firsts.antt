@@ -1,6 +1,6 @@
 -- The first of a list that passes a test: the head where it passes, else the first of the rest.
 use mathlib.Core.Path.{◌≡◌, sym, ap, ◌∙◌}
-use mathlib.Core.Bool.{Bool, true, false}
+use mathlib.Core.Bool.{Bool, false}
 use mathlib.Core.List.{List, [], ◌∷◌}
 use Prim.Native.Nat.{ℕ}
 use Rattle.model.specs.declared.Question.{Question}
@@ -12,11 +12,6 @@ use Rattle.walks.specs.Finding.{AskedOf}
 module _ (s : Store) (q : Question) (cuts : List (List ℕ)) (G : List ℕ) (rest : List (List ℕ)) where
   abbrev first : List (List ℕ) → Witness
   first Gs = first_of (keep (meets s q) Gs)
-
-  pub first_here : first cuts ≡ first (G ∷ rest) → meets s q G ≡ true → AskedOf s q cuts true G
-  first_here left e =
-      let found : first cuts ≡ record { found = true; cut = G } = left ∙ ap (λ (b : Bool). first_of (cons_if b G (keep (meets s q) rest))) e in
-      record { found_is = sym (ap (λ (w : Witness). w.found) found); cut_is = sym (ap (λ (w : Witness). w.cut) found) }
 
   pub first_skips : first cuts ≡ first (G ∷ rest) → meets s q G ≡ false → first cuts ≡ first rest
   first_skips left e = left ∙ ap (λ (b : Bool). first_of (cons_if b G (keep (meets s q) rest))) e

@@ -1,14 +1,8 @@
 -- Rules 29 and 30, as far as they are about the cuts that are written.
-use Rattle.std.specs.Prelude.{◌≡◌, ℕ, ◌*◌, ◌/◌, ◌≤◌, Bool, true, List, [], ◌∷◌, ◌++◌, ltb, length, take, drop}
+use Rattle.std.specs.Prelude.{◌≡◌, ℕ, ◌*◌, ◌/◌, Bool, true, List, [], ◌∷◌, ◌++◌, ltb, length, take, drop}
 use Rattle.model.specs.declared.Place.{Place}
 use Rattle.model.specs.Lists.{keep}
 use Rattle.model.specs.Lexical.{lex_before}
-use Rattle.steps.specs.Walk.{Standing}
-
--- a range, one of its cuts, and an output with room for it
-pub record Pending (n : ℕ) (clocks low high first out : List ℕ) : Type 0 where
-  pub stand : Standing n clocks low high first
-  pub room_left : 8 ≤ length out
 
 -- a cut and all that stand behind it
 abbrev pub from_cut : List (List ℕ) → List ℕ → List (List ℕ)

@@ -1,44 +1,24 @@
 // The first cut of a range that meets a question.
-ghost use Rattle.std.specs.Prelude.{◌≡◌};
-ghost use Rattle.model.specs.Clocks.{clock_at};
-ghost use Rattle.model.specs.Cuts.{cuts_between};
-ghost use Rattle.steps.specs.Walk as walk;
-ghost use Rattle.questions.specs.Holdings.{ForHeld, HeldReady};
-ghost use Rattle.walks.specs.Finding.{AskedOf};
+ghost use Rattle.std.specs.Prelude.{◌≡◌, is_some};
+ghost use Rattle.steps.specs.Walked.{cuts_of};
+ghost use Rattle.questions.specs.Holdings.{ForHeld};
+ghost use Rattle.walks.specs.Finding.{AskedOf, cut_found};
 
 use model::{Cut, Question};
-use questions::cut_meets;
-use steps::lex::next_cut;
-use steps::spans::Span;
+use questions::{Holdings, cut_meets};
+use steps::walk::Walk;
 
-// The cut, or that there is none.
-#[derive(Clone, Copy)]
-pub struct First {
-    pub found: bool,
-    pub cut: Cut,
-}
-
-pub fn first_meeting(n: usize, clocks: &[u8], held: &[u16], span: Span, question: Question) -> First
-    requires { walk.Span n clocks.now span.low.counts span.high.counts × HeldReady held.now span.high.counts 0 }
-    ensures { ForHeld held.now (λ s. AskedOf s question (cuts_between (clock_at clocks.now) span.low.counts span.high.counts) result.found result.cut.counts) }
+// The cut, where there is one.
+pub fn first_meeting(walk: &Walk, holdings: Holdings, question: Question) -> Option<Cut>
+    ensures { ForHeld holdings.entry.held.now (λ s. AskedOf s question (cuts_of walk.now) (is_some result) (cut_found result)) }
 {
-    let least = span.low;
-    let low = least.counts;
-    let most = span.high;
-    let high = most.counts;
-    let mut counts = low;
+    let mut counts = walk.low.counts;
     loop {
-        if cut_meets(held, question, &counts) {
-            return First {
-                found: true,
-                cut: Cut { counts },
-            };
+        if cut_meets(holdings, question, &counts) {
+            return Some(Cut { counts });
         }
-        if !next_cut(n, clocks, &low, &high, &mut counts) {
-            return First {
-                found: false,
-                cut: Cut { counts: [0u8; 8] },
-            };
+        if !walk.next_cut(&mut counts) {
+            return None;
         }
     }
 }

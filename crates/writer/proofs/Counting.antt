@@ -1,20 +1,28 @@
--- The count of a tablet's events, order byte after order byte.
-use mathlib.Core.Path.{◌≡◌, sym, ap, ◌∙◌}
+-- How many of the first order bytes name a tablet, as the library counts them.
+use mathlib.Core.Path.{◌≡◌, refl, sym, ap, ◌∙◌}
+use mathlib.Core.Logic.{by_cases}
 use mathlib.Core.List.{List}
-use Prim.Native.Nat.{ℕ, suc, ◌+◌, ◌-◌, ◌≤◌}
+use Prim.Native.Nat.{ℕ, zero, suc, ◌≤◌}
 use native.Mathlib.Omega.{arith}
 use native.Mathlib.Numerals.{add-one}
-use lib.ListN.{get_or}
+use native.Mathlib.Decide.{ℕ_discrete}
+use borrow.Author.Tests.{eq-eqb, ne_eqb}
+use lib.Dec.{eqb}
+use lib.ListN.{length, get_or, take}
+use Rattle.std.specs.List.{count_by}
+use Rattle.std.proofs.lemmas.List.Sums.{count_by_more_yes, count_by_more_no}
 use Rattle.model.specs.Follow.{tally}
 use Rattle.model.proofs.Valid.{tally_own, tally_other}
 
-module _ (order : List ℕ) (i tablet found : ℕ) (some : 1 ≤ tablet) (is : found ≡ tally order i (tablet - 1)) where
-  pub count_own : get_or order i 0 ≡ tablet → found + 1 ≡ tally order (i + 1) (tablet - 1)
-  count_own e =
-      add-one found ∙ ap suc is
-      ∙ sym (ap (λ (p : ℕ). tally order p (tablet - 1)) (add-one i) ∙ tally_own order i (tablet - 1) (omega arith))
-
-  pub count_other : (get_or order i 0 ≡ tablet → ⊥) → found ≡ tally order (i + 1) (tablet - 1)
-  count_other e =
-      is
-      ∙ sym (ap (λ (p : ℕ). tally order p (tablet - 1)) (add-one i) ∙ tally_other order i (tablet - 1) (λ same. e (omega arith)))
+pub counted_tally : (order : List ℕ) (tablet j : ℕ) → tablet ≡ suc j → (p : ℕ) → p ≤ length order → count_by (λ b. eqb b tablet) (take p order) ≡ tally order p j
+counted_tally order tablet j is zero h = refl
+counted_tally order tablet j is (suc p) h =
+    ap (λ (k : ℕ). count_by (λ b. eqb b tablet) (take k order)) (sym (add-one p))
+    ∙ by_cases (ℕ_discrete (get_or order p 0) tablet)
+    (λ same. count_by_more_yes (λ b. eqb b tablet) order p 0 (omega arith) (eq-eqb (get_or order p 0) tablet same)
+    ∙ add-one (count_by (λ b. eqb b tablet) (take p order))
+    ∙ ap suc (counted_tally order tablet j is p (omega arith))
+    ∙ sym (tally_own order p j (same ∙ is)))
+    (λ other. count_by_more_no (λ b. eqb b tablet) order p 0 (omega arith) (ne_eqb (get_or order p 0) tablet other)
+    ∙ counted_tally order tablet j is p (omega arith)
+    ∙ sym (tally_other order p j (λ e. other (e ∙ sym is))))

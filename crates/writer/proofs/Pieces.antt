@@ -1,79 +1,66 @@
 -- The pieces of a sound store's text: where the event at a position lies, and what putting its lines together gives.
-use mathlib.Core.Path.{◌≡◌, refl, sym, ap, ◌∙◌}
+use mathlib.Core.Path.{◌≡◌, refl, sym, ap, ap₂, ◌∙◌, subst}
 use mathlib.Core.Logic.{◌≢◌, by_cases}
 use mathlib.Core.Bool.{Bool, cond}
 use mathlib.Core.List.{List, ◌++◌}
-use Prim.Native.Nat.{ℕ, ◌+◌, ◌-◌, ◌*◌, ◌≤◌, ◌<◌}
+use Prim.Native.Nat.{ℕ, ◌+◌, ◌-◌, ◌≤◌, ◌<◌}
 use native.Mathlib.Omega.{arith}
 use native.Mathlib.Decide.{ℕ_discrete}
 use borrow.Author.Tests.{eq-eqb, ne_eqb, le-leb, lt-leb, lt-ltb, le-ltb}
 use lib.Dec.{leb, ltb}
 use lib.ListN.{length, get_or, take, drop}
-use lib.Seq.{sets, sets-eq, length-take-le}
+use lib.Seq.{sets, sets-eq, length-take-le, take-length}
+use Rattle.std.specs.Prelude.{Result, Ok, Err, IsErrAnd}
+use Rattle.std.proofs.lemmas.Result.{err_from_is_err_and}
+use Rattle.model.specs.declared.Refusal.{Refusal}
 use Rattle.model.specs.Numbers.{slot}
-use Rattle.model.specs.Clocks.{clock_in, clock_of}
+use Rattle.model.specs.Refusals.{number_of, verdict_number}
+use Rattle.model.specs.Clocks.{clock_at, clock_of}
 use Rattle.model.specs.Follow.{column_at, tallies, event_at}
 use Rattle.model.specs.Store.{Store, clocks_of, store_refusal}
-use Rattle.model.proofs.Refusals.{or_else_first, or_else_next}
+use Rattle.model.proofs.Refusals.{or_else_first, or_else_next, passed_zero, refused_some}
 use Rattle.model.proofs.Follow.{Follows}
 use Rattle.model.proofs.Valid.{at_tallies}
 use Rattle.model.proofs.Sound.{Sound, Full, follows_at}
-use Rattle.model.proofs.Slots.{clock_in_long, part_clock}
 use Rattle.store.proofs.Ready.{tested_sound, tested_full}
-use Rattle.pieces.specs.declared.Piece.{Piece}
-use Rattle.pieces.specs.Pieces.{piece_room, grown, empty_piece, contents}
 use Rattle.pieces.specs.Lines.{key_line, list_line}
-use Rattle.pieces.proofs.Growing.{put_contents, contents_length}
-use Rattle.pieces.proofs.Putting.{put_empty, put_two}
 use Rattle.pieces.proofs.Lengths.{byte_digits, half_digits, small_take, list_long, key_line_length, list_line_length}
 use Rattle.loglines.specs.Keys.{tablets_key, tablet_key, clock_key, held_key, events_key}
-use Rattle.writer.specs.Writing.{three_lines, event_text, piece_text, write_refusal, WriteOutcome, writing, Placed, Writable}
+use Rattle.writer.specs.Writing.{three_lines, event_text, piece_text, write_refusal, WriteOutcome, written, writing, Placed, Writable}
 
--- the event at a position of a sound store: where it lies, and what lies there
-module _ (s : Store) (q : ℕ) (w : Writable s q) where
+-- the event at a position of a sound store
+module _ (s : Store) (none : store_refusal s ≡ 0) (q : ℕ) (inside : q < s.events) where
   abbrev tablet : ℕ
   tablet = get_or s.order q 0
 
   snd : Sound s
-  snd = tested_sound s w.refusal
+  snd = tested_sound s none
 
   full : Full s
-  full = tested_full s w.refusal
+  full = tested_full s none
 
   follows : Follows s.tablets (clocks_of s) (tallies s.order q) tablet (clock_of (clocks_of s) (event_at s.order q))
-  follows = follows_at s snd q w.inside
+  follows = follows_at s snd q inside
 
-  pub placed : Placed s.order q
+  placed : Placed s.order q
   placed =
       record {
-        inside = omega (arith, w.inside, snd.total, full.order);
+        inside = omega (arith, inside, snd.total, full.order);
         some = follows.positive;
         narrow = omega (arith, follows.listed, snd.narrow);
         room = omega (arith, follows.room, at_tallies s.order q (tablet - 1) (omega (arith, follows.positive, follows.listed, snd.narrow)));
       }
 
-  pub widths : (1 ≤ s.tablets) × (s.tablets ≤ 8)
-  widths = (snd.some, snd.narrow)
+  pub writable : Writable s q
+  writable =
+      record { placed = placed; clocks = full.clocks; held = full.held; tablets = (snd.some, snd.narrow) }
 
-  module _ (home : ℕ) (is : home ≡ slot (column_at s.order q) (event_at s.order q).number) where
-    pub home_low : home < 2032
-    unfolding slot
-    home_low = omega (arith, is, placed.some, placed.narrow, placed.room)
-
-    pub clock_inside : 8 * home + 8 ≤ length s.clocks
-    clock_inside = omega (arith, home_low, full.clocks)
-
-    pub held_inside : home < length s.held
-    held_inside = omega (arith, home_low, full.held)
-
-    pub part_long : length (take (8 * home + 8 - 8 * home) (drop (8 * home) s.clocks)) ≡ 8
-    part_long = ap length (part_clock s.clocks home) ∙ clock_in_long s.clocks home clock_inside
-
-    pub event_text_lem : three_lines tablet (take s.tablets (take (8 * home + 8 - 8 * home) (drop (8 * home) s.clocks))) (get_or s.held home 0) ≡ event_text s q
-    unfolding event_text
-    event_text_lem =
-        ap (λ (l : List ℕ). three_lines tablet (take s.tablets l) (get_or s.held home 0)) (part_clock s.clocks home)
-        ∙ ap (λ (k : ℕ). three_lines tablet (take s.tablets (clock_in s.clocks k)) (get_or s.held k 0)) is
+-- its lines, by its clock and held value where they lie
+pub event_text_lem : (s : Store) (q number : ℕ) (clock : List ℕ) (home : ℕ) → number ≡ (event_at s.order q).number → clock ≡ clock_at s.clocks (column_at s.order q) number → home ≡ slot (column_at s.order q) number → three_lines (get_or s.order q 0) (take s.tablets clock) (get_or s.held home 0) ≡ event_text s q
+unfolding event_text
+event_text_lem s q number clock home is there at_slot =
+    ap₂ (λ (l : List ℕ) (k : ℕ). three_lines (get_or s.order q 0) (take s.tablets l) (get_or s.held k 0)) there at_slot
+    ∙ ap (λ (k : ℕ). three_lines (get_or s.order q 0) (take s.tablets (clock_at s.clocks (column_at s.order q) k)) (get_or s.held (slot (column_at s.order q) k) 0)) is
 
 -- how long the lines get
 
@@ -92,17 +79,12 @@ tablet_line tablet h = omega (arith, key_line_length tablet_key tablet, byte_dig
 pub held_line : (held : ℕ) → held ≤ 65535 → length (key_line held_key held) ≤ 11
 held_line held h = line_most held_key held h
 
-pub clock_line_lem : (n : ℕ) (clock : List ℕ) → 1 ≤ n → n ≤ 8 → length clock ≡ 8 → ((i : ℕ) → i < n → get_or clock i 0 ≤ 255) → length (list_line clock_key (take n clock)) ≤ 38
-clock_line_lem n clock some most long bytes =
-    let entries = length-take-le n clock (omega arith) in
-    omega (arith, entries, list_line_length clock_key (take n clock), list_long (take n clock) (small_take n clock bytes) (omega (arith, entries)))
-
--- the three lines of an event, put one behind the other
-pub lines_put : (p first second r : Piece) (tablet : ℕ) (entries : List ℕ) (held : ℕ) → p ≡ empty_piece → first ≡ grown p (key_line tablet_key tablet) → second ≡ grown first (list_line clock_key entries) → r ≡ grown second (key_line held_key held) → r ≡ grown empty_piece (three_lines tablet entries held)
-lines_put p first second r tablet entries held ep ef es er =
-    put_empty p r (three_lines tablet entries held) ep
-    (put_two p first r (key_line tablet_key tablet) (list_line clock_key entries ++ key_line held_key held) ef
-    (put_two first second r (list_line clock_key entries) (key_line held_key held) es er))
+pub clock_line_lem : (entries : List ℕ) → 1 ≤ length entries → length entries ≤ 8 → ((i : ℕ) → get_or entries i 0 ≤ 255) → length (list_line clock_key entries) ≤ 38
+clock_line_lem entries some most bytes =
+    let n = length entries in
+    let long = length-take-le n entries (omega arith) in
+    subst (λ (l : List ℕ). length (list_line clock_key l) ≤ 38) (take-length entries)
+    (omega (arith, long, list_line_length clock_key (take n entries), list_long (take n entries) (small_take n entries (λ i h. bytes i)) (omega (arith, long))))
 
 -- which piece it is
 module _ (s : Store) (p : ℕ) where
@@ -153,11 +135,21 @@ module _ (s : Store) (p : ℕ) (out : List ℕ) where
       by_cases (ℕ_discrete (write_refusal s p (length out)) 0) told_done
       (λ some. let no : ⊥ = omega (arith, none, ap (λ (o : WriteOutcome). o.refusal) (told (write_refusal s p (length out)) (omega arith) refl)) in absurd no)
 
-  pub write_unsound : (k : ℕ) → k ≡ store_refusal s → 1 ≤ store_refusal s → refused_with k ≡ writing s p out
+  -- a store that is refused leaves the output as it was
+  pub write_left : (v : Result (Unit {0}) Refusal) (why : Refusal) (r : Result ℕ Refusal) → verdict_number v ≡ store_refusal s → v ≡ Err why → IsErrAnd r (λ y. y ≡ why) → written r out ≡ writing s p out
   unfolding write_refusal
-  write_unsound k e h = ap refused_with e ∙ sym (told (store_refusal s) h (or_else_first (store_refusal s) _ h))
+  write_left v why r test is left =
+      let p = err_from_is_err_and r left in
+      let some = refused_some v why _ test is in
+      ap (λ (a : Result ℕ Refusal). written a out) p.1
+      ∙ ap refused_with (ap number_of p.2 ∙ ap verdict_number (sym is) ∙ test)
+      ∙ sym (told (store_refusal s) some (or_else_first (store_refusal s) _ some))
 
-  module _ (none : store_refusal s ≡ 0) where
+  -- by the code: the store's test has passed
+  module _ (v : Result (Unit {0}) Refusal) (went : Unit {0}) (test : verdict_number v ≡ store_refusal s) (is : v ≡ Ok went) where
+    none : store_refusal s ≡ 0
+    none = passed_zero v went _ test is
+
     pub write_beyond : s.events + 1 < p → refused_with 9 ≡ writing s p out
     unfolding write_refusal
     write_beyond h =
@@ -179,10 +171,9 @@ module _ (s : Store) (p : ℕ) (out : List ℕ) where
           sym (told_done (by_room ∙ ap (λ (b : Bool). cond b 14 0) (le-ltb (length out) (length (piece_text s p)) h)))
 
       -- the piece as it was put together and copied
-      pub write_copied : (piece : Piece) (exit : List ℕ) → piece ≡ grown empty_piece (piece_text s p) → piece.length ≤ piece_room → piece.length ≤ length out → exit ≡ sets out 0 (contents piece) → record { refusal = 0; length = piece.length; output = exit } ≡ writing s p out
-      write_copied piece exit is few fits e =
-          let long : piece.length ≡ length (piece_text s p) = contents_length piece (piece_text s p) is in
-          let bytes : contents piece ≡ piece_text s p = ap contents is ∙ put_contents (piece_text s p) (omega arith) in
+      pub write_copied : (piece : List ℕ) (long : ℕ) (exit : List ℕ) → piece ≡ piece_text s p → long ≡ length piece → long ≤ length out → exit ≡ sets out 0 piece → record { refusal = 0; length = long; output = exit } ≡ writing s p out
+      write_copied piece long exit is count fits e =
+          let size : long ≡ length (piece_text s p) = count ∙ ap length is in
           let same : 0 + length (piece_text s p) ≡ length (piece_text s p) = omega arith in
-          let out-is : exit ≡ piece_text s p ++ drop (length (piece_text s p)) out = e ∙ ap (sets out 0) bytes ∙ sets-eq (piece_text s p) out 0 (omega arith) ∙ ap (λ (n : ℕ). piece_text s p ++ drop n out) same in
-          (λ i. record { refusal = 0; length = long i; output = out-is i }) ∙ write_done (omega arith)
+          let out-is : exit ≡ piece_text s p ++ drop (length (piece_text s p)) out = e ∙ ap (sets out 0) is ∙ sets-eq (piece_text s p) out 0 (omega arith) ∙ ap (λ (n : ℕ). piece_text s p ++ drop n out) same in
+          (λ i. record { refusal = 0; length = size i; output = out-is i }) ∙ write_done (omega arith)

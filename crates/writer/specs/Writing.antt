@@ -1,11 +1,11 @@
 -- Rules 44 and 45, writing by pieces.
-use Rattle.std.specs.Prelude.{◌≡◌, ℕ, zero, suc, ◌+◌, ◌-◌, ◌≤◌, ◌<◌, cond, List, ◌++◌, leb, ltb, eqb, length, get_or, take, drop}
+use Rattle.std.specs.Prelude.{ℕ, zero, suc, ◌+◌, ◌-◌, ◌≤◌, ◌<◌, cond, List, ◌++◌, leb, ltb, eqb, length, get_or, take, drop, Result, Ok, Err}
+use Rattle.model.specs.declared.Refusal.{Refusal}
 use Rattle.model.specs.Refusals.{verdict_number, or_else}
 use Rattle.model.specs.Clocks.{clock_of}
 use Rattle.model.specs.Follow.{tally, column_at, event_at}
 use Rattle.model.specs.Store.{Store, clocks_of, held_of, store_refusal}
 use Rattle.pieces.specs.Lines.{key_line, list_line}
-use Rattle.writer.specs.declared.WriteAnswer.{WriteAnswer}
 use Rattle.loglines.specs.Keys.{tablets_key, tablet_key, clock_key, held_key, events_key}
 
 -- rule 38: the three lines of an event
@@ -18,7 +18,6 @@ unfoldable pub event_text : Store → ℕ → List ℕ
 event_text s q =
     three_lines (get_or s.order q 0) (take s.tablets (clock_of (clocks_of s) (event_at s.order q))) (held_of s (event_at s.order q))
 
--- rule 44: the piece of a number
 -- rule 44: the piece of a number
 unfoldable pub piece_text : Store → ℕ → List ℕ
 piece_text s p =
@@ -44,8 +43,14 @@ pub record WriteOutcome : Type 0 where
   pub length : ℕ
   pub output : List ℕ
 
-abbrev pub written : WriteAnswer → List ℕ → WriteOutcome
-written a out = record { refusal = verdict_number a.verdict; length = a.length; output = out }
+-- rule 51: a refusal gives no length
+abbrev pub length_given : Result ℕ Refusal → ℕ
+length_given (Ok long) = long
+length_given (Err why) = 0
+
+abbrev pub written : Result ℕ Refusal → List ℕ → WriteOutcome
+written answer out =
+    record { refusal = verdict_number answer; length = length_given answer; output = out }
 
 -- rules 44 and 51: the piece in front of the output's rest, or what a refusal leaves
 unfoldable pub writing : Store → ℕ → List ℕ → WriteOutcome
@@ -54,14 +59,16 @@ writing s p out =
     (record { refusal = 0; length = length (piece_text s p); output = piece_text s p ++ drop (length (piece_text s p)) out })
     (record { refusal = write_refusal s p (length out); length = 0; output = out })
 
--- what finding the slot of the event at position q + 1 may assume
+-- what finding the number of the event at position q + 1 may assume
 pub record Placed (order : List ℕ) (q : ℕ) : Type 0 where
   pub inside : q < length order
   pub some : 1 ≤ get_or order q 0
   pub narrow : get_or order q 0 ≤ 8
   pub room : tally order q (column_at order q) < 254
 
--- what putting an event's lines together may assume
+-- what putting its lines together may assume: a sound store has it in its buffers
 pub record Writable (s : Store) (q : ℕ) : Type 0 where
-  pub refusal : store_refusal s ≡ 0
-  pub inside : q < s.events
+  pub placed : Placed s.order q
+  pub clocks : 16256 ≤ length s.clocks
+  pub held : 2032 ≤ length s.held
+  pub tablets : (1 ≤ s.tablets) × (s.tablets ≤ 8)

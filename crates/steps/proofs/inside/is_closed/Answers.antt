@@ -1,31 +1,21 @@
--- `is_closed`: what the tablets passed so far know is in the cut; one that knows more ends the loop.
-use mathlib.Core.Path.{◌≡◌, sym, ap, ◌∙◌}
+-- `is_closed`: `all` over the columns is the test of what each tablet's last event knows.
+use mathlib.Core.Path.{◌∙◌}
 use mathlib.Core.Bool.{Bool}
-use Prim.Native.Nat.{ℕ}
 use native.Mathlib.Omega.{arith}
+use Prim.Native.Nat.{ℕ, ◌+◌, ◌-◌}
+use Rattle.std.proofs.Common.{rules, tests}
+use Rattle.std.proofs.lemmas.Iterator.{YieldsList-from_range}
+use Rattle.std.proofs.lemmas.Iterator.Search.{all_from_yields_List}
 use Rattle.model.specs.Lists.{at}
 use Rattle.model.specs.Clocks.{clock_at, covered, known}
 use Rattle.model.specs.Cuts.{closed}
-use Rattle.model.proofs.Tests.{all_below_stop}
-use Rattle.model.proofs.Columns.{column_of_next}
-use Rattle.steps.proofs.inside.is_closed.Invariants.{one}
+use Rattle.model.proofs.Columns.{all_columns}
 use Rattle.steps.proofs.inside.is_closed.Goals as goal
-
-pub returns-then-not-known_covered : goal.returns-then-not-known_covered
-unfolding closed
-returns-then-not-known_covered c =
-    let test : ℕ → Bool = one c.args.clocks.now c.args.counts in
-    let looked : test c.loop-i.i ≡ c.known_covered.result =
-    let a = c.args in
-    let i = c.loop-i.i in
-    ap (λ (j : ℕ). covered (known (clock_at a.clocks.now) j (at a.counts i)) a.counts) (sym (column_of_next i))
-    ∙ sym c.known_covered.ensures in
-    sym
-    (all_below_stop 8 c.loop-i.i test c.loop-i-test.true
-    (looked ∙ c.if-not-known_covered.true))
 
 pub returns : goal.returns
 unfolding closed
 returns c =
-    let e : c.loop-i.i ≡ 8 = omega arith in
-    sym (rw e at c.loop-i.invariant.1)
+    let a = c.args in
+    let rule : ℕ → ℕ → Bool = λ j i. covered (known (clock_at a.clocks.bytes.now) j (at a.counts.now i)) a.counts.now in
+    all_from_yields_List (λ i. rule (i + 1 - 1) i) c.all.new.self _ _ c.all.ensures.ran (YieldsList-from_range 0 8 8 (cc) (omega arith)) (λ x b q k. search (rules, tests))
+    ∙ all_columns rule

@@ -1,63 +1,29 @@
 -- `append`: a refused event leaves all as it was; one that may follow is written.
-use mathlib.Core.Path.{◌≡◌, ap, ◌∙◌}
-use mathlib.Core.List.{List}
-use Prim.Native.Nat.{ℕ}
-use native.Mathlib.Omega.{arith}
-use lib.ListN.{length}
-use Rattle.model.specs.Refusals.{verdict_number}
-use Rattle.model.specs.Clocks.{clock_at}
-use Rattle.model.specs.Follow.{follow_refusal}
-use Rattle.model.specs.Store.{Store, store_of, event_refusal}
-use Rattle.model.proofs.Refusals.{passed_zero, refused_some}
-use Rattle.store.proofs.Ready.{tested_sound, tested_full, tested_bounded}
-use Rattle.store.proofs.Outcomes.{appended_refused, appended_stored}
-use borrow.Author.Rules.{rules}
+use mathlib.Core.Path.{ap}
+use Rattle.model.specs.Store.{Store}
+use Rattle.store.specs.Outcomes.{store_at}
+use Rattle.store.proofs.Ready.{tested_sound, tested_full, tested_bounded, room}
+use Rattle.store.proofs.Outcomes.{append_left, append_writes, append_done}
 use Rattle.store.proofs.inner.append.Goals as goal
 
-pub offered_verdict-v-requires : goal.offered_verdict-v-requires
-offered_verdict-v-requires c =
-    let st : Store = store_of c.args.«record» c.args.clocks.now c.args.held.now c.args.order.now in
-    let long : length c.args.event.clock ≡ 8 = search rules in
-    let s = st in
-    let ready = c.requires in (
-      record {
-        full = (tested_full s ready.refusal).clocks;
-        long = omega (arith, long);
-        bounded = λ j h. rw ready.tally (tested_bounded s ready.refusal j h);
-      },
-      (tested_sound s ready.refusal).narrow,
-    )
+pub invariant_of-clocks : goal.invariant_of-clocks
+invariant_of-clocks c =
+    record { full = rw (ap (λ (t : Store). t.clocks) c.trace.ensures) (tested_full (store_at c.args.«record» c.args.buffers.now) c.requires.refusal).clocks }
+
+pub invariant_of-past : goal.invariant_of-past
+invariant_of-past c =
+    let s = store_at c.args.«record» c.args.buffers.now in
+    record { narrow = (tested_sound s c.requires.refusal).narrow; bounded = λ j h. rw c.requires.tally (tested_bounded s c.requires.refusal j h) }
+
+pub returns-in_err-offered_verdict-clause-appended : goal.returns-in_err-offered_verdict-clause-appended
+returns-in_err-offered_verdict-clause-appended c =
+    append_left _ c.args.buffers.now c.args.event _ _ _ (ap (λ (t : Store). t.clocks) c.trace.ensures) c.requires c.offered_verdict.ensures.number _ _ c.in_err-offered_verdict.was c.from_residual.ensures.1
 
 pub write_event-requires : goal.write_event-requires
-unfolding event_refusal
 write_event-requires c =
-    let st : Store = store_of c.args.«record» c.args.clocks.now c.args.held.now c.args.order.now in
-    let offered : verdict_number c.offered_verdict-v.result ≡ event_refusal st c.args.event =
-    let a = c.args in
-    c.offered_verdict-v.ensures
-    ∙ ap (λ (tal : List ℕ). follow_refusal a.«record».tablets (clock_at a.clocks.now) tal a.event.tablet.0 a.event.clock) c.requires.tally in
-    let may : event_refusal st c.args.event ≡ 0 = passed_zero c.offered_verdict-v.result _ offered c.in-Passed.is in
-    record { ready = c.requires; may = may }
+    let ready = append_writes _ c.args.buffers.now c.args.event _ _ _ (ap (λ (t : Store). t.clocks) c.trace.ensures) c.requires c.offered_verdict.ensures.number _ c.in_ok-offered_verdict.was in
+    record { ready = ready; room = room (store_at c.args.«record» c.args.buffers.now) c.args.tallies c.args.event ready }
 
-pub returns-in-Refused : goal.returns-in-Refused
-unfolding event_refusal
-returns-in-Refused c =
-    let st : Store = store_of c.args.«record» c.args.clocks.now c.args.held.now c.args.order.now in
-    let offered : verdict_number c.offered_verdict-v.result ≡ event_refusal st c.args.event =
-    let a = c.args in
-    c.offered_verdict-v.ensures
-    ∙ ap (λ (tal : List ℕ). follow_refusal a.«record».tablets (clock_at a.clocks.now) tal a.event.tablet.0 a.event.clock) c.requires.tally in
-    appended_refused st c.args.event c.args.tallies _ c.requires offered
-    (refused_some c.offered_verdict-v.result _ _ offered c.in-Refused.is)
-
-pub returns-in-Passed : goal.returns-in-Passed
-unfolding event_refusal
-returns-in-Passed c =
-    let st : Store = store_of c.args.«record» c.args.clocks.now c.args.held.now c.args.order.now in
-    let offered : verdict_number c.offered_verdict-v.result ≡ event_refusal st c.args.event =
-    let a = c.args in
-    c.offered_verdict-v.ensures
-    ∙ ap (λ (tal : List ℕ). follow_refusal a.«record».tablets (clock_at a.clocks.now) tal a.event.tablet.0 a.event.clock) c.requires.tally in
-    let may : event_refusal st c.args.event ≡ 0 = passed_zero c.offered_verdict-v.result _ offered c.in-Passed.is in
-    let written = c.write_event in
-    appended_stored st c.args.event _ written.result.tallies may written.ensures
+pub returns-clause-appended : goal.returns-clause-appended
+returns-clause-appended c =
+    append_done _ c.args.buffers.now c.args.event _ _ _ (ap (λ (t : Store). t.clocks) c.trace.ensures) c.requires c.offered_verdict.ensures.number _ _ _ c.in_ok-offered_verdict.was c.write_event.ensures.written

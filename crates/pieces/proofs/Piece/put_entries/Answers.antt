@@ -1,0 +1,12 @@
+-- `put_entries`: room for the whole list is room for the entry that is put.
+use Rattle.std.proofs.Common.{ℕ, length, ap, arith, length-append}
+use Rattle.pieces.proofs.Putting.{next_entry}
+use Rattle.pieces.proofs.Piece.put_entries.Goals as goal
+
+pub put_byte-requires : goal.put_byte-requires
+put_byte-requires c =
+    omega (arith, c.requires.fits, length-append {A = ℕ}, ap length c.loop-j.invariant, next_entry c.args.values.now c.loop-j.j c.loop-j-test.true)
+
+pub put_number-requires-in-loop-j : goal.put_number-requires-in-loop-j
+put_number-requires-in-loop-j c =
+    omega (arith, c.requires.fits, length-append {A = ℕ}, ap length c.loop-j.invariant, ap length c.put_byte.ensures, next_entry c.args.values.now c.loop-j.j c.loop-j-test.true)

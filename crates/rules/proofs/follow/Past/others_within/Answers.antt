@@ -1,0 +1,21 @@
+-- `others_within`: `all` over the columns is the test of each entry.
+use mathlib.Core.Path.{◌∙◌}
+use mathlib.Core.Bool.{Bool}
+use native.Mathlib.Omega.{arith}
+use Prim.Native.Nat.{ℕ, ◌+◌, ◌-◌}
+use Rattle.std.proofs.Common.{rules, tests}
+use Rattle.std.proofs.lemmas.Iterator.{YieldsList-from_range}
+use Rattle.std.proofs.lemmas.Iterator.Search.{all_from_yields_List}
+use Rattle.model.specs.Lists.{at}
+use Rattle.model.specs.Numbers.{column}
+use Rattle.model.specs.Follow.{entry_fits, others_within}
+use Rattle.model.proofs.Columns.{all_columns}
+use Rattle.rules.proofs.follow.Past.others_within.Goals as goal
+
+pub returns : goal.returns
+unfolding others_within
+returns c =
+    let a = c.args in
+    let rule : ℕ → ℕ → Bool = λ j i. entry_fits a.self.tablets (column a.own) j (at a.self.tallies i) (at a.clock.now i) in
+    all_from_yields_List (λ i. rule (i + 1 - 1) i) c.all.new.self _ _ c.all.ensures.ran (YieldsList-from_range 0 8 8 (cc) (omega arith)) (λ x b q k. search (rules, tests))
+    ∙ all_columns rule

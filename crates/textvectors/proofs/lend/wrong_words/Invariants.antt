@@ -1,9 +1,0 @@
--- `textvectors::lend::wrong_words` is safe and ends. Nothing has to hold from turn to turn; the measure is what is left to count.
-use Rattle.std.proofs.Common.{◌-◌}
-use Rattle.textvectors.proofs.lend.wrong_words.Given as goal
-
-abbrev pub invariant-loop-i : goal.invariant-loop-i
-invariant-loop-i l = Unit {0}
-
-abbrev pub decreases-loop-i : goal.decreases-loop-i
-decreases-loop-i l = 2048 - l.i

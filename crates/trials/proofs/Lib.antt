@@ -1,0 +1,2 @@
+-- What follows from the contracts of this crate.
+pub mod Unique

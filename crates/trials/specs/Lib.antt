@@ -1,0 +1,3 @@
+-- What the programs that try the library share.
+pub mod Draws
+pub mod Counters

@@ -1,9 +1,0 @@
--- `vectors::print::say_trace` is safe and ends. Nothing has to hold from turn to turn; the measure is what is left to count.
-use Rattle.std.proofs.Common.{◌-◌}
-use Rattle.vectors.proofs.print.say_trace.Given as goal
-
-abbrev pub invariant-loop-p : goal.invariant-loop-p
-invariant-loop-p l = Unit {0}
-
-abbrev pub decreases-loop-p : goal.decreases-loop-p
-decreases-loop-p l = l.last - l.p

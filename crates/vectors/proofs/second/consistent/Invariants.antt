@@ -1,9 +1,0 @@
--- `vectors::second::consistent` is safe and ends. Nothing has to hold from turn to turn; the measure is what is left to count.
-use Rattle.std.proofs.Common.{◌-◌}
-use Rattle.vectors.proofs.second.consistent.Given as goal
-
-abbrev pub invariant-loop-i : goal.invariant-loop-i
-invariant-loop-i l = Unit {0}
-
-abbrev pub decreases-loop-i : goal.decreases-loop-i
-decreases-loop-i l = 8 - l.i

@@ -1,9 +1,0 @@
--- `vectors::traces::compare_intervals` is safe and ends. Nothing has to hold from turn to turn; the measure is what is left to count.
-use Rattle.std.proofs.Common.{◌-◌}
-use Rattle.vectors.proofs.traces.compare_intervals.Given as goal
-
-abbrev pub invariant-loop-p : goal.invariant-loop-p
-invariant-loop-p l = Unit {0}
-
-abbrev pub decreases-loop-p : goal.decreases-loop-p
-decreases-loop-p l = l.behind - l.p

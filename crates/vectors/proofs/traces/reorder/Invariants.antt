@@ -1,9 +1,0 @@
--- `vectors::traces::reorder` is safe and ends. Nothing has to hold from turn to turn; the measure is what is left to count.
-use Rattle.std.proofs.Common.{◌-◌}
-use Rattle.vectors.proofs.traces.reorder.Given as goal
-
-abbrev pub invariant-loop-placed : goal.invariant-loop-placed
-invariant-loop-placed l = Unit {0}
-
-abbrev pub decreases-loop-placed : goal.decreases-loop-placed
-decreases-loop-placed l = l.last - l.placed
