@@ -231,7 +231,7 @@ awk -F '\t' '
   if (arms >= 2 || arms == 1 && $6 ~ /: (Refusal|Verdict|Listing|Answer)/) print "4d\t" $2 "\t" $3 ":" $4 "\t" $5 "\ttable of " arms " arms"
   else if (one ~ /^ *if .* \{ 1 \} else \{ 0 \} *$/) print "4d\t" $2 "\t" $3 ":" $4 "\t" $5 "\tflag to number"
   if ($5 ~ /^(packed|packed_at|unpacked|record_from|fresh_record|range_of|question_of|event_of|place_of|behind|bit_of|listed_as|listed_said|gathered_said|lent_record|small_entry|entry|alone|with_entry|row_at|copied_row|written_cut|to_tell|call_read|list_by_moving)$/) print "4e\t" $2 "\t" $3 ":" $4 "\t" $5 "\tone form to another"
-  f = 0; for (i = 1; i <= n; i++) if (match(l[i], /same[a-z_]*\([a-z]+, .*\);/)) { t = l[i]; gsub(/[()]/, " ", t); gsub(/,/, "", t); k = split(t, w, " "); split("", has); for (j = 1; j <= k; j++) if (w[j] ~ /^[a-z]+\.[a-z]+;?$/) { sub(/;/, "", w[j]); sub(/^[a-z]+\./, "", w[j]); has[w[j]]++; if (has[w[j]] == 2) f++ } }
+  f = 0; for (i = 1; i <= n; i++) if (match(l[i], /same[a-z_]*\(([a-z]+|Kind::[A-Za-z]+), .*\)\??;?$/)) { t = l[i]; gsub(/[()?]/, " ", t); gsub(/,/, "", t); k = split(t, w, " "); split("", has); for (j = 1; j <= k; j++) if (w[j] ~ /^[a-z]+(\.said)?\.[a-z0-9]+(\.0)?;?$/) { sub(/;/, "", w[j]); sub(/^[a-z]+\./, "", w[j]); has[w[j]]++; if (has[w[j]] == 2) f++ } }
   if (f >= 2) print "4g\t" $2 "\t" $3 ":" $4 "\t" $5 "\t" f " fields"
   if ($8 ~ /io::(write_all|print_decimal|print_hex|decimal)\(/ || $5 ~ /^(say.*|add_(letter|part|number|line|lines|clock)|digits_of)$/ || $6 ~ /: Piece|-> Piece/ || $8 ~ /copy_out\(/) print "4f\t" $2 "\t" $3 ":" $4 "\t" $5 "\tputs text together" }' "$T/fns" | place
 
@@ -273,7 +273,7 @@ awk -F '\t' '{ q = $7; sub(/ensures.*/, "", q); if (match(q, /16256|Comparable|R
 # 6a structs of a buffer and a length; 6b tables of cells (type aliases of arrays, consts that are indices into them); 6c a slice or
 # an array with a length among the parameters; 6d loops that search or count by hand; 6e the three buffers side by side;
 # 6f sets as bits
-awk -F '\t' '$1 == "struct" && $6 ~ /\[[a-z0-9]+; / && $6 ~ /(length|from|count|len): (u8|u16|u32|u64|usize)/ { print "6a\t" $2 "\t" $3 ":" $4 "\t" $5 "\ta buffer and a length" }
+awk -F '\t' '$1 == "struct" && $6 ~ /\[[A-Za-z0-9]+; / && $6 ~ /(length|from|count|len): (u8|u16|u32|u64|usize)/ { print "6a\t" $2 "\t" $3 ":" $4 "\t" $5 "\ta buffer and a length" }
 $1 == "type" && $6 ~ /\[[a-z0-9]+; / { b = $6; sub(/^ *= */, "", b); print "6b\t" $2 "\t" $3 ":" $4 "\t" $5 "\ttype " b }' "$T/all" | place
 awk -F '\t' '
 NR == FNR { if ($1 == "fn") body[$2] = body[$2] " " $8; next }
@@ -302,7 +302,7 @@ awk -F '\t' '
     if (l[i] ~ /=> [a-z_:]+\(.*\),$/) arms++
     if (l[i] ~ /^ *if .*(== [A-Z_]+|opened|\.more|\.call == ).*\{$/ && l[i] !~ /=> /) print "7b\t" $2 "\t" $3 ":" $4 "\t" $5 "\t" substr(l[i], match(l[i], /[^ ]/))
     if (l[i] ~ /let [a-z]+ = [a-z.]+ == [A-Z]+;|while (call|short) < /) print "7b\t" $2 "\t" $3 ":" $4 "\t" $5 "\t" l[i]
-    if (match(l[i], /^ *[a-z_:]+\(.*\);$/)) { t = l[i]; sub(/^ */, "", t); sub(/\(.*/, "", t); calls[t]++ } }
+    if (match(l[i], /^ *[a-z_:.]+!?\(.*\)\??;?$/)) { t = l[i]; sub(/^ */, "", t); sub(/\(.*/, "", t); calls[t]++ } }
   if (arms >= 2) print "7a\t" $2 "\t" $3 ":" $4 "\t" $5 "\t" arms " arms that call"
   for (t in calls) if (calls[t] >= 3) print "7c\t" $2 "\t" $3 ":" $4 "\t" $5 "\t" t " " calls[t] " times"
   if (($6 $8) ~ /Fn\(|dyn |: fn\(|FnOnce|FnMut|[(,=] *(move )?\|[A-Za-z_0-9, &():]*\| */) print "7d\t" $2 "\t" $3 ":" $4 "\t" $5 "\ta function as a value" }' "$T/fns" | place

@@ -1,8 +1,8 @@
 -- How the lines of an answer stand in an output.
-use Rattle.std.specs.Prelude.{◌≡◌, List, ℕ, ◌+◌, ◌≤◌, length, Option, None, Some}
+use Rattle.std.specs.Prelude.{◌≡◌, List, ℕ, ◌+◌, ◌≤◌, length, Option, None, Some, IfSome}
+use Rattle.std.specs.Borrow.{Bor}
 use Rattle.std.proofs.lemmas.List.Edits.{sets}
 use Rattle.model.specs.declared.Record.{Record}
-use Rattle.model.specs.declared.Cut.{Cut}
 use Rattle.model.specs.Lists.{zeros}
 
 -- Our choice, since document 01 has no rule for a report's output: it has 71,680 bytes or more, as the store's buffers are of
@@ -11,17 +11,19 @@ use Rattle.model.specs.Lists.{zeros}
 abbrev pub room : ℕ
 room = 71680
 
--- the entries of a witness that is handed over, and zeros where there is none
-abbrev pub witness_entries : Option Cut → List ℕ
+-- the entries of a witness that is lent, and zeros where there is none
+abbrev pub witness_entries : Option (Bor (List ℕ)) → List ℕ
 witness_entries None = zeros
-witness_entries (Some cut) = cut.counts
+witness_entries (Some cut) = cut.now
 
--- what writing an answer may assume: a number of tablets and of events, a count for each position, the room
-pub record Writable (r : Record) (counts out : List ℕ) : Type 0 where
+-- what writing an answer may assume: a number of tablets and of events, a count for each position, eight entries or more of a
+-- witness, the room
+pub record Writable (r : Record) (counts : List ℕ) (witness : Option (Bor (List ℕ))) (out : List ℕ) : Type 0 where
   pub some : 1 ≤ r.tablets
   pub most : r.tablets ≤ 8
   pub few : r.events ≤ 2032
   pub counted : 2033 ≤ length counts
+  pub entries : IfSome witness (λ cut. 8 ≤ length cut.now)
   pub fits : room ≤ length out
 
 -- lines written at an offset: the offset behind them, and the output at exit

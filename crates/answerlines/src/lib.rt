@@ -2,14 +2,14 @@
 // writes to the front of the output that it is lent, and gives how many bytes it wrote.
 #![tactic(auto)]
 
-ghost use Rattle.std.specs.Prelude.{◌≡◌, ◌+◌, ◌++◌, ◌*◌, ◌≤◌, length, is_some};
+ghost use Rattle.std.specs.Prelude.{◌≡◌, ◌+◌, ◌++◌, ◌*◌, ◌≤◌, length, is_some, IfSome};
 ghost use Rattle.model.specs.Lists.{at};
 ghost use Rattle.pieces.specs.Lines.{list_line, pair_line};
 ghost use Rattle.answerlines.specs.Printing.{interval_key, interval_lines, witness_key, witness_line, head_lines, tail_lines, answer_lines};
 ghost use Rattle.answerlines.specs.Outputs.{room, witness_entries, Writable, LinesAt};
 
 use loglines::keys::{EVENTS, TABLETS};
-use model::{Cut, Record};
+use model::Record;
 use pieces::{Piece, empty_piece};
 
 const INTERVAL: [u8; 9] = *b"interval=";
@@ -20,7 +20,7 @@ const WITNESS: [u8; 8] = *b"witness=";
 
 const NO_WITNESS: [u8; 13] = *b"witness=none\n";
 
-// `tablets` and `events`.
+// `tablets` and `events`. Not by `fmt::Write`: see `Piece`.
 #[tactic(auto, using(crate::proofs::Lines::tablets_most, crate::proofs::Lines::events_most))]
 fn add_head(record: Record, out: &mut [u8]) -> usize
     requires { («record».tablets ≤ 8) × («record».events ≤ 2032) × (22 ≤ length out.old) }
@@ -57,7 +57,7 @@ fn add_intervals(counts: &[u64], out: &mut [u8]) -> usize
     length
 }
 
-// `witness` with a cut's entries.
+// `witness` with a cut's entries. Their bounds are asked and are no type: only three private functions of this file have them.
 fn put_cut(line: &mut Piece, entries: &[u8])
     requires { (1 ≤ length entries.now) × (length entries.now ≤ 8) × (length line.old ≤ 56) }
     ensures put { line.new ≡ line.old ++ list_line witness_key entries.now }
@@ -66,24 +66,24 @@ fn put_cut(line: &mut Piece, entries: &[u8])
     line.put_list(&WITNESS, entries);
 }
 
-// `witness` with the first n entries of a cut, or with `none`.
+// `witness` with the first n entries of a cut that has eight or more, or with `none`.
 #[tactic(auto, unfolding(crate::specs::Printing::witness_line))]
-fn put_witness(line: &mut Piece, n: usize, witness: Option<Cut>)
-    requires { (1 ≤ n) × (n ≤ 8) × (length line.old ≤ 56) }
-    ensures put { line.new ≡ line.old ++ witness_line n (is_some witness) (witness_entries witness) }
+fn put_witness(line: &mut Piece, n: usize, witness: Option<&[u8]>)
+    requires { (1 ≤ n) × (n ≤ 8) × IfSome witness (λ cut. 8 ≤ length cut.now) × (length line.old ≤ 56) }
+    ensures put { line.new ≡ line.old ++ witness_line n (is_some witness.entry) (witness_entries witness.entry) }
     ensures short { length line.new ≤ length line.old + 40 }
 {
     match witness {
-        Some(cut) => put_cut(line, &cut.counts[..n]),
+        Some(cut) => put_cut(line, &cut[..n]),
         None => line.put_bytes(&NO_WITNESS),
     }
 }
 
 // `cuts` and `witness`.
 #[tactic(auto, using(crate::proofs::Lines::cuts_most))]
-fn add_tail(n: usize, sum: u64, witness: Option<Cut>, out: &mut [u8]) -> usize
-    requires { (1 ≤ n) × (n ≤ 8) × (66 ≤ length out.old) }
-    ensures { (result ≤ 66) × LinesAt out.old 0 (tail_lines n sum (is_some witness) (witness_entries witness)) result out.new }
+fn add_tail(n: usize, sum: u64, witness: Option<&[u8]>, out: &mut [u8]) -> usize
+    requires { (1 ≤ n) × (n ≤ 8) × IfSome witness (λ cut. 8 ≤ length cut.now) × (66 ≤ length out.old) }
+    ensures { (result ≤ 66) × LinesAt out.old 0 (tail_lines n sum (is_some witness.entry) (witness_entries witness.entry)) result out.new }
 {
     let mut tail = empty_piece();
     tail.put_line(&CUTS, sum);
@@ -97,11 +97,11 @@ pub fn write_answer(
     record: Record,
     counts: &[u64],
     sum: u64,
-    witness: Option<Cut>,
+    witness: Option<&[u8]>,
     out: &mut [u8],
 ) -> usize
-    requires { Writable «record» counts.now out.old }
-    ensures { (result ≤ room) × LinesAt out.old 0 (answer_lines «record».tablets «record».events (at counts.now) sum (is_some witness) (witness_entries witness)) result out.new }
+    requires { Writable «record» counts.now witness out.old }
+    ensures { (result ≤ room) × LinesAt out.old 0 (answer_lines «record».tablets «record».events (at counts.now) sum (is_some witness.entry) (witness_entries witness.entry)) result out.new }
 {
     let mut length = add_head(record, out);
     let events = record.events as usize;

@@ -1,15 +1,15 @@
 -- Laws of commas and of the tablets that a list names.
 use mathlib.Core.Path.{◌≡◌, refl, ap}
-use mathlib.Core.Bool.{Bool, true, false, ◌&&◌, cond}
+use mathlib.Core.Bool.{cond, and-false}
 use mathlib.Core.List.{List}
 use Prim.Native.Nat.{ℕ, zero, suc, ◌+◌, ◌-◌, ◌*◌, ◌%◌, ◌^◌, ◌≤◌, ◌<◌}
 use native.Mathlib.Numerals.{add-one}
 use native.Mathlib.Omega.{arith}
-use lib.Dec.{eqb, ltb, eqb→eq}
+use lib.Dec.{eqb, eqb→eq}
 use borrow.Author.Tests.{lt-ltb, le-ltb, le-leb, lt-leb}
 use lib.ListN.{length, get_or, drop}
 use lib.Seq.{drop-cons}
-use Rattle.std.specs.Prelude.{Option, None, count_by}
+use Rattle.std.specs.Prelude.{None, count_by}
 use Rattle.std.proofs.lemmas.List.Recursion.{is_count_by}
 use Rattle.model.proofs.Tests.{all_below_at}
 use Rattle.lines.proofs.Entries.{listed_many}
@@ -41,10 +41,6 @@ mask_below mask last (suc t) m h =
 pub bit_most : (tablet : ℕ) → tablet ≤ 8 → bit tablet ≤ 256
 bit_most tablet h = bit_later tablet 8 h
 
-never_both : (b : Bool) (x : Option ℕ) → cond (b && false) x None ≡ None
-never_both true x = refl
-never_both false x = refl
-
 -- the tablet at an index, behind the last and the mask of those before it
 module _ (entries : List ℕ) (i : ℕ) (h : i < length entries) (last mask : ℕ) where
   pub names_next : last < get_or entries i 0 → get_or entries i 0 ≤ 8 → naming last mask (drop i entries) ≡ naming (get_or entries i 0) (mask + bit (get_or entries i 0 - 1)) (drop (i + 1) entries)
@@ -56,7 +52,7 @@ module _ (entries : List ℕ) (i : ℕ) (h : i < length entries) (last mask : �
 
   pub no_tablet : 8 < get_or entries i 0 → naming last mask (drop i entries) ≡ None
   no_tablet high =
-      rw (drop-cons entries i 0 h) (simp (lt-leb _ _ high) (never_both (ltb last (get_or entries i 0)) _))
+      rw (drop-cons entries i 0 h) (simp (lt-leb _ _ high, and-false))
 
 pub ruleset names = (mask_below, bit_most, names_next, not_rising, no_tablet)
 

@@ -13,7 +13,7 @@ fn count_commas(text: &[u8]) -> usize
     text.iter().filter(|b| **b == b',').count()
 }
 
-// The bit of a tablet, from tablet 1.
+// The bit of a tablet, from tablet 1. No conversion: built by rule 34.
 #[tactic(auto, using(crate::proofs::Naming::bit_is))]
 fn bit_of(tablet: Tablet) -> u8
     requires { (1 ≤ tablet.0) × (tablet.0 ≤ 8) }

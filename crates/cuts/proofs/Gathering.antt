@@ -5,8 +5,8 @@ use mathlib.Core.Bool.{Bool, true, cond}
 use mathlib.Core.List.{List, [], ◌∷◌, ◌++◌, append_assoc, append-nil}
 use Prim.Native.Nat.{ℕ, zero, suc, ◌+◌, ◌-◌, ◌*◌, ◌≤◌, ◌<◌}
 use native.Mathlib.Omega.{arith}
-use native.Mathlib.Decide.{ℕ_discrete, dec_le}
-use borrow.Author.Tests.{lt-ltb, le-ltb}
+use native.Mathlib.Decide.{ℕ_discrete}
+use borrow.Author.Tests.{lt-ltb, le-ltb, ltb-true}
 use borrow.Rule.Slice.PartMut.{put_mid}
 use lib.Dec.{ltb}
 use lib.ListN.{length, take, drop, length-append, length-take, length-drop}
@@ -14,6 +14,7 @@ use lib.Seq.{take_all, take_at, drop_at, drop-length, drop-drop, take-append-add
 use Rattle.model.specs.declared.Place.{Place}
 use Rattle.model.specs.Store.{Store}
 use Rattle.model.specs.Cuts.{interval}
+use Rattle.std.proofs.lemmas.Bool.{ltb_from_iff}
 use Rattle.std.specs.Prelude.{Ok, Err}
 use Rattle.model.specs.declared.Refusal.{Refusal}
 use Rattle.model.proofs.Refusals.{number_positive}
@@ -83,13 +84,6 @@ pub behind_append : (one two : Place) (Gs Hs : List (List ℕ)) → 1 ≤ length
 behind_append one two [] [] h = let z : ⊥ = omega arith in absurd z
 behind_append one two [] (H ∷ Hs) h = refl
 behind_append one two (G ∷ Gs) Hs h = behind_append (record { begun = true; cut = record { counts = G } }) two Gs Hs h
-
--- what is left of a part is left of the whole
-sooner : (a b c d n : ℕ) → c ≡ n + a → d ≡ n + b → ltb a b ≡ ltb c d
-sooner a b c d n e f =
-    by_cases (dec_le b a)
-    (λ h. le-ltb a b h ∙ sym (le-ltb c d (omega (arith, e, f, h))))
-    (λ h. lt-ltb a b (omega (arith, h)) ∙ sym (lt-ltb c d (omega (arith, e, f, h))))
 
 -- The loop before interval p: the cuts of the intervals before it are written, and there is room for another.
 pub record UpTo (s : Store) (first p w : ℕ) (out₀ out : List ℕ) : Type 0 where
@@ -225,7 +219,8 @@ module _ {s : Store} {first p w : ℕ} {out₀ out : List ℕ} (u : UpTo s first
     stops_last e =
         let same : last - first ≡ p - first = omega arith in
         let whole : all ≡ before ++ interval s p = ap (λ (m : ℕ). joined s first (suc m)) same ∙ next in
-        let left : ltb (room behind) (length (interval s p)) ≡ ltb (room out₀) (length all) = sooner (room behind) (length (interval s p)) (room out₀) (length all) (length before) rooms (ap length whole ∙ length-append before (interval s p)) in
+        let long : length all ≡ length before + length (interval s p) = ap length whole ∙ length-append before (interval s p) in
+        let left : ltb (room behind) (length (interval s p)) ≡ ltb (room out₀) (length all) = ltb_from_iff (λ e. omega (arith, rooms, long, ltb-true (room behind) (length (interval s p)) e), λ h. lt-ltb (room behind) (length (interval s p)) (omega (arith, rooms, long, h))) in
         stops r.more
         (ap (λ (o : ListOutcome). o.said) here.told ∙ ap (λ (b : Bool). cond b more done) left)
         (ap (take (room out₀)) whole ∙ fitting)

@@ -13,11 +13,12 @@ use Rattle.model.specs.Lists.{keep}
 use Rattle.model.specs.Clocks.{clock_at, covered}
 use Rattle.model.specs.Cuts.{consistent}
 use Rattle.model.specs.Lexical.{lex_before}
-use Rattle.model.proofs.Tests.{from_true, and_left, and_right}
+use Rattle.std.proofs.lemmas.Float.{T_from_true}
+use Rattle.model.proofs.Tests.{and_left, and_right}
 use Rattle.model.proofs.Entries.{covered_at_most}
 use Rattle.model.proofs.Ranges.{consistent_holds}
 use Rattle.steps.specs.declared.walk.Walk.{Walk}
-use Rattle.steps.specs.Walked.{Standing, clocks_of, cuts_of}
+use Rattle.steps.specs.Walked.{Standing, walk_clocks, cuts_of}
 use Rattle.walks.specs.Showing.{ShownOf}
 use Rattle.cuts.specs.declared.sound.Sound.{Sound}
 use Rattle.cuts.specs.Ranges.{with_held, IntervalWalk}
@@ -26,7 +27,7 @@ use Rattle.cuts.proofs.Traces.{interval_walked}
 
 -- the test of a cut against a walk's bounds
 abbrev pub in_test : Walk → List ℕ → Bool
-in_test w G = covered w.low.counts G && consistent (clocks_of w) w.high.counts G
+in_test w G = covered w.low.counts G && consistent (walk_clocks w) w.high.counts G
 
 -- what was shown, told as an outcome
 pub shown_listed : (shown rest : List (List ℕ)) (place : Place) (out : List ℕ) (count : ℕ) (after : Place) (later : Bool) (result : List ℕ) → ShownOf shown out count after later result → shown ≡ rest → listed place (Ok (record { written = count; place = after; more = later })) result ≡ shown_from rest place out
@@ -53,11 +54,11 @@ none_listed rest place out none =
 -- a cut that passes the test stands in the range
 pub stand_inside : (w : Walk) (G : List ℕ) → length G ≡ 8 → in_test w G ≡ true → Standing w G
 stand_inside w G long inside =
-    let both = from_true (in_test w G) inside in
+    let both = T_from_true (in_test w G) inside in
     record {
       long = long;
-      least = covered_at_most w.low.counts G (and_left (covered w.low.counts G) (consistent (clocks_of w) w.high.counts G) both);
-      cut = consistent_holds (clocks_of w) w.high.counts G (and_right (covered w.low.counts G) (consistent (clocks_of w) w.high.counts G) both);
+      least = covered_at_most w.low.counts G (and_left (covered w.low.counts G) (consistent (walk_clocks w) w.high.counts G) both);
+      cut = consistent_holds (walk_clocks w) w.high.counts G (and_right (covered w.low.counts G) (consistent (walk_clocks w) w.high.counts G) both);
     }
 
 module _ (cuts : List (List ℕ)) (inside : Bool) (place : Place) (out : List ℕ) (o : ListOutcome) where

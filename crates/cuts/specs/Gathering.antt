@@ -16,6 +16,7 @@ pub record GatherOutcome : Type 0 where
 abbrev pub refused_gathering : ℕ → List ℕ → GatherOutcome
 refused_gathering number out = record { listing = refused_listing number fresh out; position = 0 }
 
+-- rule 51: a refusal comes with position 0 and a place not begun
 abbrev pub gathered : Result Gathered Refusal → List ℕ → GatherOutcome
 gathered (Ok r) output =
     record {
@@ -35,8 +36,8 @@ abbrev pub stands_in : Store → ℕ → ℕ → ℕ → ℕ
 stands_in s first zero w = first
 stands_in s first (suc k) w = cond (ltb (length (joined s first (suc k))) w) (first + suc k) (stands_in s first k w)
 
--- rules 29 to 31: all cuts from the first position to the last, as many as fit, as one listing of them; where it stopped is the place behind
--- the last cut written, in that cut's interval
+-- rules 29 to 31: all cuts from the first position to the last, k positions behind the first, as many as fit, as one listing
+-- of them; where it stopped is the place behind the last cut written, in that cut's interval
 abbrev pub gathered_from : Store → ℕ → ℕ → List ℕ → GatherOutcome
 gathered_from s first k out =
     record {

@@ -28,12 +28,13 @@ pub record ListOutcome : Type 0 where
 abbrev pub refused_listing : ℕ → Place → List ℕ → ListOutcome
 refused_listing number place out = record { refusal = number; said = nothing; count = 0; place = place; output = out }
 
--- the place by value: the one that is returned, and the one given where nothing is
+-- the place by value: the one that is returned. rule 51: with a refusal 0 are written, and the place is as it was, the one
+-- given
 abbrev pub listed : Place → Result Listed Refusal → List ℕ → ListOutcome
 listed given (Ok r) output = record { refusal = 0; said = cond r.more more done; count = r.written; place = r.place; output = output }
 listed given (Err why) output = refused_listing (number_of why) given output
 
--- the same where the place was lent: what it is at exit
+-- the same where the place was lent: what it is at exit. rule 51: with a refusal 0 are written, and the place is as it was
 abbrev pub moved : Result Moved Refusal → Place → List ℕ → ListOutcome
 moved (Ok r) place output = record { refusal = 0; said = cond r.more more done; count = r.written; place = place; output = output }
 moved (Err why) place output = refused_listing (number_of why) place output

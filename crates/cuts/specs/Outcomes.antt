@@ -31,6 +31,7 @@ pub record CountOutcome : Type 0 where
   pub refusal : ℕ
   pub count : ℕ
 
+-- rule 51: a refusal comes with a count of 0
 abbrev pub counted : Result ℕ Refusal → CountOutcome
 counted (Ok count) = record { refusal = 0; count = count }
 counted (Err why) = record { refusal = number_of why; count = 0 }
@@ -56,6 +57,7 @@ pub record AskOutcome : Type 0 where
 abbrev pub refused_asking : ℕ → AskOutcome
 refused_asking number = record { refusal = number; found = false; cut = zeros }
 
+-- rules 36 and 51: zeros where no cut is found, and with a refusal
 abbrev pub asked : Result (Option Cut) Refusal → AskOutcome
 asked (Ok found) = record { refusal = 0; found = is_some found; cut = cut_found found }
 asked (Err why) = refused_asking (number_of why)

@@ -17,18 +17,19 @@ use Rattle.cuts.specs.Outcomes.{range_known}
 abbrev pub with_held : Sound → List ℕ → Store
 with_held t held = store_of t.«record» t.clocks.now held t.order.now
 
--- the walk over the interval of a position, with its bounds by name, Gmin and Gbnd: a listing tests its place's cut by them
+-- rule 23: the walk over the interval of a position, with its bounds by name, Gmin and Gbnd: a listing tests its place's cut
+-- by them
 pub record IntervalWalk (t : Sound) (p : ℕ) (w : Walk) : Type 0 where
   pub clocks_are : w.clocks.bytes.now ≡ t.clocks.now
   pub low_is : (held : List ℕ) → w.low.counts ≡ gmin (with_held t held) p
   pub high_is : w.high.counts ≡ tallies t.order.now p
 
--- of a position up to T
+-- rules 23 and 24: the same of a position up to T
 abbrev pub IntervalRead : Sound → ℕ → Option Walk → Type 0
 IntervalRead t p None = t.«record».events < p
 IntervalRead t p (Some w) = (p ≤ t.«record».events) × IntervalWalk t p w
 
--- the walk over a range, where it is known
+-- rule 35: the walk over a range, an interval or the whole trace, where it is known
 abbrev pub RangeRead : Sound → Range → Option Walk → Type 0
 RangeRead t range None = (held : List ℕ) → range_known (with_held t held) range ≡ false
 RangeRead t range (Some w) = (held : List ℕ) → (range_known (with_held t held) range ≡ true) × (cuts_of w ≡ cuts_in (with_held t held) range)

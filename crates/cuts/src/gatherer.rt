@@ -24,6 +24,7 @@ fn gather_from(
         cut: Cut { counts: [0; 8] },
     };
     let mut written = 0;
+    // A for over the index: it leaves early with what was written.
     for p in first.0..last.0 {
         let position = Position(p);
         let part = list_interval(trace, position, start, &mut out[8 * written..])?;

@@ -36,10 +36,12 @@ pub fn count_interval_with(
 }
 
 // The first cut of a job's range that meets its question.
+// Asked and no type: Sound has no held values, and this reads them.
 pub fn answer_job(trace: Trace, job: Job) -> Result<Option<Cut>, Refusal>
     requires { store_refusal (store_in trace) ≡ 0 }
     ensures { asked result ≡ ask_in (store_in trace.entry) job }
 {
+    // Three fields, and each place shows the fact by its own.
     let sound = Sound {
         record: trace.record,
         clocks: trace.clocks,

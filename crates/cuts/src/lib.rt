@@ -29,6 +29,7 @@ fn tested(trace: Trace) -> Result<Sound, Refusal>
     ensures { Tested trace.entry result }
 {
     store::check(trace)?;
+    // Three fields, and each place shows the fact by its own.
     Ok(Sound {
         record: trace.record,
         clocks: trace.clocks,
@@ -64,6 +65,7 @@ pub fn list(
 }
 
 // What a listing answers where its place was lent.
+// A flag for "more": what is written is there in both cases.
 #[derive(Clone, Copy)]
 pub struct Moved {
     pub written: usize,
@@ -89,6 +91,7 @@ pub fn list_moving(
 
 // What a gathering answers: how many cuts are there, whether more are left, and where it stopped: the interval of the last cut
 // written and the place behind that cut, from which `list` goes on.
+// A flag for "more": what is written and the place are there in both cases.
 #[derive(Clone, Copy)]
 pub struct Gathered {
     pub written: usize,

@@ -2,7 +2,7 @@
 ghost use Rattle.std.specs.Prelude.{◌≡◌, ◌&&◌, List, ℕ, ◌≤◌, length};
 ghost use Rattle.model.specs.Clocks.{covered};
 ghost use Rattle.model.specs.Cuts.{consistent};
-ghost use Rattle.steps.specs.Walked.{clocks_of, cuts_of};
+ghost use Rattle.steps.specs.Walked.{cuts_of, walk_clocks};
 ghost use Rattle.cuts.specs.Listing.{listed, list_of, list_in};
 ghost use Rattle.cuts.specs.Ranges.{with_held};
 
@@ -13,7 +13,7 @@ use walks::showing::{Listed, show};
 
 fn list_walk(walk: &Walk, place: Place, out: &mut [u8]) -> Result<Listed, Refusal>
     requires { 8 ≤ length out.old }
-    ensures { listed place result out.new ≡ list_of (cuts_of walk.now) (covered walk.now.low.counts place.cut.counts && consistent (clocks_of walk.now) walk.now.high.counts place.cut.counts) place out.old }
+    ensures { listed place result out.new ≡ list_of (cuts_of walk.now) (covered walk.now.low.counts place.cut.counts && consistent (walk_clocks walk.now) walk.now.high.counts place.cut.counts) place out.old }
 {
     if !place.begun {
         return Ok(show(walk, walk.low, out));

@@ -7,7 +7,7 @@ use mathlib.Core.List.{List, [], ◌∷◌, ◌++◌, Memᴰ}
 use Prim.Native.Nat.{ℕ, zero, suc, ◌+◌, ◌-◌, ◌≤◌, ◌<◌}
 use native.Mathlib.Omega.{arith}
 use native.Mathlib.Decide.{ℕ_discrete}
-use borrow.Author.Tests.{le-ltb}
+use borrow.Author.Tests.{le-ltb, eq-eqb}
 use lib.ListN.{length, length-append}
 use Rattle.std.specs.Prelude.{Result, Ok, Err, is_ok}
 use Rattle.std.specs.Result.{result_unwrap_or}
@@ -20,10 +20,10 @@ use Rattle.model.proofs.Questions.{interval_rising}
 use Rattle.model.proofs.Valid.{length_tallies}
 use Rattle.model.proofs.Intervals.{interval_literal}
 use Rattle.model.proofs.Partition.{cut_into, counts_add_up, in_one_interval}
-use Rattle.store.proofs.Outcomes.{when_zero}
+use Rattle.std.proofs.lemmas.Bool.{cond-true}
 use Rattle.walks.specs.Counting.{fits64}
-use Rattle.cuts.specs.Outcomes.{CountOutcome, counted, count_in, counting}
-use Rattle.cuts.specs.Gathering.{joined, gathered_from, refused_gathering, gather_in, gathering}
+use Rattle.cuts.specs.Outcomes.{CountOutcome, counted, counting}
+use Rattle.cuts.specs.Gathering.{joined, gathered_from, gathering}
 use Rattle.cuts.proofs.Members.{interval_long}
 use Rattle.demands.specs.Calls.{NoneTwice}
 use Rattle.demands.proofs.Rising.{rising_none_twice, append_none_twice}
@@ -94,7 +94,7 @@ module _ (s : Store) (snd : Sound s) where
 -- gathering of a sound store, where neither 9 nor 14 applies
 pub gathers : (s : Store) → store_refusal s ≡ 0 → (first last : ℕ) → first ≤ last → last ≤ s.events → (out : List ℕ) → 8 ≤ length out → gathering s first last out ≡ gathered_from s first (last - first) out
 gathers s none first last rising within out fits =
-    when_zero (store_refusal s) (gather_in s first last out) (refused_gathering (store_refusal s) out) none
+    cond-true _ _ _ (eq-eqb (store_refusal s) 0 none)
     ∙ simp (le-ltb s.events last within, le-ltb last first rising, le-ltb (length out) 8 fits) refl
 
 -- what the calls of counting give, where none refuses
@@ -107,7 +107,7 @@ module _ (s : Store) (none : store_refusal s ≡ 0) where
     where
       here : counting s p ≡ counts (interval s p)
       here =
-          when_zero (store_refusal s) (count_in s p) (record { refusal = store_refusal s; count = 0 }) none
+          cond-true _ _ _ (eq-eqb (store_refusal s) 0 none)
           ∙ ap (λ (b : Bool). cond b (record { refusal = 9; count = 0 }) (counts (interval s p))) (le-ltb s.events p within)
 
       either : Bool → CountOutcome

@@ -7,7 +7,7 @@ use mathlib.Core.List.{List, [], ◌∷◌, ◌++◌, append_assoc, Memᴰ}
 use Prim.Native.Nat.{ℕ, ◌+◌, ◌-◌, ◌*◌, ◌≤◌}
 use native.Mathlib.Omega.{arith}
 use native.Mathlib.Decide.{dec_le}
-use borrow.Author.Tests.{lt-ltb, le-ltb}
+use borrow.Author.Tests.{lt-ltb, le-ltb, eq-eqb}
 use lib.Dec.{ltb}
 use lib.ListN.{length, take, drop, length-take, length-drop, take-append-drop}
 use lib.Seq.{take_at, take-add, take-nil, drop-nil}
@@ -18,8 +18,8 @@ use Rattle.model.specs.Store.{Store, store_refusal}
 use Rattle.model.specs.Cuts.{interval}
 use Rattle.model.proofs.Tests.{holds}
 use Rattle.model.proofs.Questions.{interval_rising}
-use Rattle.store.proofs.Outcomes.{when_zero}
-use Rattle.cuts.specs.Listing.{flat, room, behind_all, done, more, ListOutcome, refused_listing, shown_from, list_of, in_interval, list_in, listing}
+use Rattle.std.proofs.lemmas.Bool.{cond-true}
+use Rattle.cuts.specs.Listing.{flat, room, behind_all, done, more, ListOutcome, refused_listing, shown_from, list_of, in_interval, listing}
 use Rattle.cuts.proofs.Members.{Wide, interval_wide, flat_long, flat_append, interval_long, interval_test}
 use Rattle.cuts.proofs.Gathering.{behind_append}
 use Rattle.demands.specs.Calls.{Listable, behind_place, front, wrote_all, last_says, Roomy, rooms}
@@ -93,7 +93,7 @@ module _ (s : Store) (p : ℕ) where
   module _ (none : store_refusal s ≡ 0) (within : p ≤ s.events) where
     pub opens : (place : Place) → Listable s p place → (out : List ℕ) → 8 ≤ length out → listing s p place out ≡ shown_from (behind_place s p place) place out
     opens place ok out fits =
-        when_zero (store_refusal s) (list_in s p place out) (refused_listing (store_refusal s) place out) none
+        cond-true _ _ _ (eq-eqb (store_refusal s) 0 none)
         ∙ ap (λ (b : Bool). cond b (refused_listing 9 place out) (cond (ltb (length out) 8) (refused_listing 14 place out) (list_of (interval s p) inside place out))) (le-ltb s.events p within)
         ∙ ap (λ (b : Bool). cond b (refused_listing 14 place out) (list_of (interval s p) inside place out)) (le-ltb (length out) 8 fits)
         ∙ by_flag place.begun refl

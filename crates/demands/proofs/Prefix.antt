@@ -5,7 +5,7 @@ use mathlib.Core.Bool.{Bool, true, false, cond, not, ◌&&◌}
 use mathlib.Core.List.{List, ◌++◌}
 use Prim.Native.Nat.{ℕ, zero, suc, ◌+◌, ◌-◌, ◌≤◌}
 use native.Mathlib.Omega.{arith}
-use borrow.Author.Tests.{le-ltb, le-leb, ltb-false}
+use borrow.Author.Tests.{le-ltb, le-leb, ltb-false, eq-eqb}
 use lib.Dec.{ltb}
 use lib.ListN.{length, take}
 use Rattle.model.specs.declared.Place.{Place}
@@ -23,11 +23,11 @@ use Rattle.model.proofs.Sound.{Sound}
 use Rattle.model.proofs.Valid.{tallies_grow}
 use Rattle.model.proofs.Agree.{consistent_same, tallies_same, gmin_same, interval_same, answer_same}
 use Rattle.store.proofs.Ready.{tested_sound}
-use Rattle.store.proofs.Outcomes.{when_zero}
+use Rattle.std.proofs.lemmas.Bool.{cond-true}
 use Rattle.walks.specs.Counting.{fits64}
-use Rattle.cuts.specs.Outcomes.{CountOutcome, count_in, counting, AskOutcome, refused_asking, question_fits, ask_in, asking}
-use Rattle.cuts.specs.Listing.{room, fresh, shown_from, ListOutcome, refused_listing, list_of, in_interval, list_in, listing}
-use Rattle.cuts.specs.Gathering.{GatherOutcome, joined, stands_in, gathered_from, refused_gathering, gather_in, gathering}
+use Rattle.cuts.specs.Outcomes.{CountOutcome, counting, AskOutcome, refused_asking, question_fits, asking}
+use Rattle.cuts.specs.Listing.{room, fresh, shown_from, ListOutcome, refused_listing, list_of, in_interval, listing}
+use Rattle.cuts.specs.Gathering.{GatherOutcome, joined, stands_in, gathered_from, refused_gathering, gathering}
 
 module _ (s r : Store) (p : Position) (none : store_refusal s ≡ 0) (none-r : store_refusal r ≡ 0) (within : p.0 ≤ s.events) (within-r : p.0 ≤ r.events) (agree : AgreeTo p.0 s r) where
   snd : Sound s
@@ -51,7 +51,7 @@ module _ (s r : Store) (p : Position) (none : store_refusal s ≡ 0) (none-r : s
 
       of_sound : (t : Store) → store_refusal t ≡ 0 → p.0 ≤ t.events → counting t p.0 ≡ counts (interval t p.0)
       of_sound t clean h =
-          when_zero (store_refusal t) (count_in t p.0) (record { refusal = store_refusal t; count = 0 }) clean
+          cond-true _ _ _ (eq-eqb (store_refusal t) 0 clean)
           ∙ ap (λ (b : Bool). cond b (record { refusal = 9; count = 0 }) (counts (interval t p.0))) (le-ltb t.events p.0 h)
 
   -- the same listing: cuts, place, output and what is said
@@ -63,7 +63,7 @@ module _ (s r : Store) (p : Position) (none : store_refusal s ≡ 0) (none-r : s
 
       of_sound : (t : Store) → store_refusal t ≡ 0 → p.0 ≤ t.events → listing t p.0 place out ≡ lists (interval t p.0) (in_interval t p.0 place.cut.counts)
       of_sound t clean h =
-          when_zero (store_refusal t) (list_in t p.0 place out) (refused_listing (store_refusal t) place out) clean
+          cond-true _ _ _ (eq-eqb (store_refusal t) 0 clean)
           ∙ ap (λ (b : Bool). cond b (refused_listing 9 place out) (lists (interval t p.0) (in_interval t p.0 place.cut.counts))) (le-ltb t.events p.0 h)
 
   -- the same answer to a question put to the interval
@@ -81,7 +81,7 @@ module _ (s r : Store) (p : Position) (none : store_refusal s ≡ 0) (none-r : s
 
       of_sound : (t : Store) → store_refusal t ≡ 0 → p.0 ≤ t.events → asking t job ≡ answers (question_fits t.tablets q) (answer t job)
       of_sound t clean h =
-          when_zero (store_refusal t) (ask_in t job) (refused_asking (store_refusal t)) clean
+          cond-true _ _ _ (eq-eqb (store_refusal t) 0 clean)
           ∙ ap (λ (b : Bool). cond (not b) (refused_asking 9) (answers (question_fits t.tablets q) (answer t job))) (le-leb p.0 t.events h)
 
 -- the same gathering, where the stores agree up to its last position
@@ -121,7 +121,7 @@ module _ (s r : Store) (none : store_refusal s ≡ 0) (none-r : store_refusal r 
 
       of_sound : (t : Store) → store_refusal t ≡ 0 → last ≤ t.events → gathering t first last out ≡ ways t (ltb last first)
       of_sound t clean h =
-          when_zero (store_refusal t) (gather_in t first last out) (refused_gathering (store_refusal t) out) clean
+          cond-true _ _ _ (eq-eqb (store_refusal t) 0 clean)
           ∙ ap (λ (b : Bool). cond b (refused_gathering 9 out) (ways t (ltb last first))) (le-ltb t.events last h)
 
       same : first ≤ last → gathered_from s first (last - first) out ≡ gathered_from r first (last - first) out

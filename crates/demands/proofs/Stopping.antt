@@ -6,8 +6,9 @@ use mathlib.Core.List.{List, [], ◌∷◌, ◌++◌}
 use Prim.Native.Nat.{ℕ, zero, suc, ◌+◌, ◌-◌, ◌≤◌, ◌<◌}
 use native.Mathlib.Omega.{arith}
 use native.Mathlib.Decide.{dec_le}
-use lib.ListN.{length, take, drop, length-append, length-take, drop_of_length-le}
-use lib.Seq.{take_all, take-append-add, take-append-le, drop-append-add, drop-append-le}
+use lib.ListN.{length, take, drop, length-append, length-take}
+use Rattle.std.proofs.lemmas.List.{take_min, drop_min}
+use lib.Seq.{take-append-add, take-append-le, drop-append-add, drop-append-le}
 use Rattle.model.specs.declared.Place.{Place}
 use Rattle.model.specs.Store.{Store, store_refusal}
 use Rattle.model.specs.Cuts.{interval}
@@ -44,24 +45,6 @@ begun_behind place [] h = let z : ⊥ = omega arith in absurd z
 begun_behind place (G ∷ []) h = refl
 begun_behind place (G ∷ H ∷ Gs) h = begun_behind (record { begun = true; cut = record { counts = G } }) (H ∷ Gs) (omega arith)
 
--- the first n of a list, and what is left, where n may be more than there are
-module _ (n : ℕ) (Gs : List (List ℕ)) where
-  fitting : length (take n Gs) ≤ length Gs
-  fitting = omega (arith, length-take n Gs)
-
-  take_fitting : take n Gs ≡ take (length (take n Gs)) Gs
-  take_fitting =
-      by_cases (dec_le n (length Gs))
-      (λ h. let e : n ≡ length (take n Gs) = omega (arith, length-take n Gs) in ap (λ (m : ℕ). take m Gs) e)
-      (λ h. let e : length Gs ≤ length (take n Gs) = omega (arith, length-take n Gs, h) in
-      take_all n Gs (omega (arith, h)) ∙ sym (take_all (length (take n Gs)) Gs e))
-
-  drop_fitting : drop n Gs ≡ drop (length (take n Gs)) Gs
-  drop_fitting =
-      by_cases (dec_le n (length Gs))
-      (λ h. let e : n ≡ length (take n Gs) = omega (arith, length-take n Gs) in ap (λ (m : ℕ). drop m Gs) e)
-      (λ h. drop_of_length-le Gs {i = n} (omega (arith, h)) ∙ sym (drop_of_length-le Gs {i = length (take n Gs)} (omega (arith, length-take n Gs, h))))
-
 module _ (s : Store) (none : store_refusal s ≡ 0) (first last : ℕ) (rising : first ≤ last) (within : last ≤ s.events) (out : List ℕ) (fits : 8 ≤ length out) where
   abbrev all : List (List ℕ)
   all = joined s first (suc (last - first))
@@ -73,7 +56,7 @@ module _ (s : Store) (none : store_refusal s ≡ 0) (first last : ℕ) (rising :
   some_at p h = interval_some (record { tablets = s.tablets; events = s.events }) s.clocks s.order s.held (record { held = s.held; none = none }) p h
 
   at : Found s first (last - first) w
-  at = found s first (last - first) w some (fitting (room out) all)
+  at = found s first (last - first) w some (omega (arith, length-take (room out) all))
     where
       first_one : 1 ≤ length all
       first_one =
@@ -110,7 +93,7 @@ module _ (s : Store) (none : store_refusal s ≡ 0) (first last : ℕ) (rising :
 
   shown : take (room out) all ≡ before ++ take j (interval s p)
   shown =
-      take_fitting (room out) all
+      sym (ap (λ (m : ℕ). take m all) (length-take (room out) all) ∙ take_min (room out) all)
       ∙ ap (take w) parts
       ∙ take-append-le w (before ++ interval s p) rest enough
       ∙ ap (λ (m : ℕ). take m (before ++ interval s p)) count
@@ -130,7 +113,7 @@ module _ (s : Store) (none : store_refusal s ≡ 0) (first last : ℕ) (rising :
 
   left_here : drop (room out) all ≡ drop j (interval s p) ++ rest
   left_here =
-      drop_fitting (room out) all
+      sym (ap (λ (m : ℕ). drop m all) (length-take (room out) all) ∙ drop_min (room out) all)
       ∙ ap (drop w) parts
       ∙ drop-append-le w (before ++ interval s p) rest enough
       ∙ ap (λ (l : List (List ℕ)). l ++ rest) (ap (λ (m : ℕ). drop m (before ++ interval s p)) count ∙ drop-append-add before (interval s p) j)

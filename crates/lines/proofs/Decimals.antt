@@ -12,12 +12,9 @@ use native.Mathlib.Numerals.{add-one}
 use lib.ListN.{length, get_or, drop, length-append, get_or-append, drop_of_length-le}
 use lib.Seq.{drop-cons}
 use Rattle.std.specs.Prelude.{Some, None}
+use Rattle.std.proofs.lemmas.Bool.{and_parts, cond_both}
 use Rattle.std.proofs.lemmas.Option.{none-some, same_Some}
 use Rattle.lines.specs.Numbers.{decimal_from, decimal, plain, is_digit, all_digits, value_from, digits_from, number}
-
-pub cond_same : {A : Type 0} (b : Bool) (x : A) → cond b x x ≡ x
-cond_same true x = refl
-cond_same false x = refl
 
 -- reading: one digit more, a byte that is none, a sum that passed the limit, and the end
 
@@ -39,7 +36,7 @@ module _ (limit sum : ℕ) where
   unfolding digits_from
   past_limit text past =
       ap (λ (b : Bool). cond (all_digits text) (cond b (Some (value_from sum text)) None) None) (lt-leb (value_from sum text) limit (omega (arith, grows sum text)))
-      ∙ cond_same (all_digits text) None
+      ∙ cond_both (all_digits text) None None (λ o. o ≡ None) (λ e. refl) (λ e. refl)
 
   pub at_end : (text : List ℕ) (i : ℕ) → length text ≤ i → sum ≤ limit → digits_from limit sum (drop i text) ≡ Some sum
   unfolding digits_from
@@ -183,14 +180,10 @@ decimal_next sum d h low =
     ∙ ap (λ (m : ℕ). decimal m ++ ((48 + (10 * sum + d) % 10) ∷ [])) tenth
     ∙ ap (λ (m : ℕ). decimal sum ++ ((48 + m) ∷ [])) last
 
-pub both_true : (p q : Bool) → (p && q) ≡ true → (p ≡ true) × (q ≡ true)
-both_true true q x = (refl, x)
-both_true false q x = absurd (false≢true x)
-
 pub digit_bounds : (b : ℕ) (t : Bool) → (is_digit b && t) ≡ true → (48 ≤ b) × (b ≤ 57) × (t ≡ true)
 digit_bounds b t e =
-    let first = both_true (is_digit b) t e in
-    let both = both_true (leb 48 b) (leb b 57) first.0 in
+    let first = and_parts (is_digit b) t e in
+    let both = and_parts (leb 48 b) (leb b 57) first.0 in
     (leb-true 48 b both.0, leb-true b 57 both.1, first.1)
 
 decimal_more : (sum : ℕ) (text : List ℕ) → 1 ≤ sum → all_digits text ≡ true → decimal (value_from sum text) ≡ decimal sum ++ text

@@ -4,28 +4,22 @@ use mathlib.Core.Logic.{by_cases}
 use mathlib.Core.Bool.{Bool, true, false, cond}
 use mathlib.Core.List.{List, [], ◌∷◌, ◌++◌, append_assoc, append-nil}
 use Rattle.std.specs.Prelude.{Option, Some, None}
+use Rattle.std.proofs.lemmas.Bool.{cond_both}
+use Rattle.std.proofs.lemmas.List.{take_rest, take_more_set, length_push}
 use Rattle.std.proofs.lemmas.Option.{none-some, same_Some}
 use Prim.Native.Nat.{ℕ, zero, suc, ◌+◌, ◌-◌, ◌≤◌, ◌<◌}
 use native.Mathlib.Omega.{arith}
-use native.Mathlib.Numerals.{add-one}
 use native.Mathlib.Decide.{dec_lt}
 use borrow.Author.Tests.{lt-ltb, le-ltb, le-leb, lt-leb, ltb-true}
 use lib.ListN.{length, get_or, take, drop, set, length-append, length-drop, length-set, get_or-eq_default}
-use lib.Seq.{take-suc-set, take_all, length-take-le, get_or-take, get_or-set_other}
+use lib.Seq.{length-take-le, get_or-take, get_or-set_other}
 use Rattle.model.specs.Lists.{at, eight}
 use Rattle.model.proofs.Entries.{at_eight, length_eight, same_entries}
 use Rattle.lines.specs.Numbers.{number, decimal}
-use Rattle.lines.proofs.Decimals.{cond_same, decimal_digits, decimal_some, number_written, number_back, number_limit}
+use Rattle.lines.proofs.Decimals.{decimal_digits, decimal_some, number_written, number_back, number_limit}
 use Rattle.lines.proofs.Parts.{find_most, digits_lack, is_found, before_it, behind_it_lem, parted}
 use Rattle.lines.specs.Find.{find, found, before, behind}
 use Rattle.lines.specs.Lists.{with_entry, entries, listed, listed_by, comma_list, more_entries}
-
--- the rest of a text, as it is lent on
-pub rest_of : (text : List ℕ) (at : ℕ) → take (length text - at) (drop at text) ≡ drop at text
-rest_of text at = take_all (length text - at) (drop at text) (omega (arith, length-drop at text))
-
-pub rest_long : (text : List ℕ) (at : ℕ) → length (take (length text - at) (drop at text)) ≡ length text - at
-rest_long text at = ap length (rest_of text at) ∙ length-drop at text
 
 -- entries that were read, before what the rest gives
 abbrev pub behind_them : List ℕ → Option (List ℕ) → Option (List ℕ)
@@ -62,7 +56,7 @@ module _ (vs rest : List ℕ) (count j : ℕ) where
     faulty_entry e =
         ap (λ (m : ℕ). behind_them vs (entries m rest)) two
         ∙ ap (λ (x : Option ℕ). behind_them vs (cond (found 44 rest) (with_entry x (entries (suc (count - j - 2)) (behind 44 rest))) None)) (ap (λ (k : ℕ). number 255 (take k rest)) (sym is) ∙ e)
-        ∙ ap (behind_them vs) (cond_same (found 44 rest) None)
+        ∙ cond_both (found 44 rest) None None (λ o. behind_them vs o ≡ None) (λ b. refl) (λ b. refl)
 
   -- one entry is due: it is the whole rest
   module _ (some_left : j < count) (last : count ≤ j + 1) where
@@ -76,9 +70,6 @@ module _ (vs rest : List ℕ) (count j : ℕ) where
 
 -- the eight values after a store at the first that is not set yet
 module _ (values : List ℕ) (j v : ℕ) (long : length values ≡ 8) (fits : j < 8) (clear : (i : ℕ) → j ≤ i → get_or values i 0 ≡ 0) where
-  pub next_values : take (j + 1) (set values j v) ≡ take j values ++ (v ∷ [])
-  next_values = ap (λ (m : ℕ). take m (set values j v)) (add-one j) ∙ take-suc-set values j v (omega arith)
-
   pub still_clear : (i : ℕ) → j + 1 ≤ i → get_or (set values j v) i 0 ≡ 0
   still_clear i h = get_or-set_other values j i v 0 (omega arith) ∙ clear i (omega arith)
 
@@ -87,15 +78,12 @@ module _ (values : List ℕ) (j v : ℕ) (long : length values ≡ 8) (fits : j 
       same_entries (set values j v) (eight (at (take j values ++ (v ∷ [])))) (length-set values j v ∙ long) (length_eight (at (take j values ++ (v ∷ []))))
       (λ i h. by_cases (dec_lt i (j + 1)) (λ low. low_entry i low ∙ sym (at_eight (at (take j values ++ (v ∷ []))) i h))
       (λ high. still_clear i (omega arith)
-      ∙ sym (at_eight (at (take j values ++ (v ∷ []))) i h ∙ get_or-eq_default (take j values ++ (v ∷ [])) 0 (omega (arith, added)))))
+      ∙ sym (at_eight (at (take j values ++ (v ∷ []))) i h ∙ get_or-eq_default (take j values ++ (v ∷ [])) 0 (omega (arith, length_push (take j values) v, length-take-le j values (omega arith))))))
     where
-      added : length (take j values ++ (v ∷ [])) ≡ j + 1
-      added = length-append (take j values) (v ∷ []) ∙ ap (λ (m : ℕ). m + 1) (length-take-le j values (omega arith))
-
       low_entry : (i : ℕ) → i < j + 1 → get_or (set values j v) i 0 ≡ get_or (take j values ++ (v ∷ [])) i 0
-      low_entry i low = sym (get_or-take (j + 1) (set values j v) i 0 low) ∙ ap (λ (l : List ℕ). get_or l i 0) next_values
+      low_entry i low = sym (get_or-take (j + 1) (set values j v) i 0 low) ∙ ap (λ (l : List ℕ). get_or l i 0) (take_more_set values j v (omega arith))
 
-pub ruleset entry_by_entry = (find_most, number_limit, rest_of, rest_long, length-take-le, entry_read, no_comma, faulty_entry, last_read, next_values, still_clear, all_values)
+pub ruleset entry_by_entry = (find_most, number_limit, take_rest, length-drop, length-take-le, entry_read, no_comma, faulty_entry, last_read, take_more_set, still_clear, all_values)
 
 -- lists of one to eight entries
 pub listed_some : (count : ℕ) (text : List ℕ) → count ≤ 8 → listed count text ≡ listed_by (entries count text)

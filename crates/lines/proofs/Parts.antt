@@ -14,21 +14,20 @@ use lib.Pointwise.{pointwise}
 use Rattle.std.specs.Prelude.{Option, Some, None, MatchOption, unwrap_or}
 use Rattle.std.proofs.Common.{Bor}
 use Rattle.std.specs.List.{position_or_len}
+use Rattle.std.proofs.lemmas.Bool.{and_parts, cond_both}
+use Rattle.std.proofs.lemmas.Bool.Decides.{same_from_decides}
+use Rattle.std.proofs.lemmas.Slice.Eq.{bytes_eq-Decides}
 use Rattle.std.proofs.lemmas.List.Recursion.{is_position_or_len}
 use Rattle.model.proofs.Tests.{holds}
 use Rattle.lines.specs.Numbers.{all_digits}
-use Rattle.lines.proofs.Decimals.{digit_bounds, both_true}
+use Rattle.lines.proofs.Decimals.{digit_bounds}
 use Rattle.lines.specs.Find.{find, found, line_length, first_line, rest_lines, starts_with, value_behind}
 
 -- the search for a byte
 
-at_most_one_more : (t : Bool) (m n : ℕ) → m ≤ n → cond t 0 (suc m) ≤ suc n
-at_most_one_more true m n h = omega arith
-at_most_one_more false m n h = omega arith
-
 pub find_most : (byte : ℕ) (text : List ℕ) → find byte text ≤ length text
 find_most byte [] = omega arith
-find_most byte (b ∷ bs) = at_most_one_more (eqb b byte) (find byte bs) (length bs) (find_most byte bs)
+find_most byte (b ∷ bs) = cond_both (eqb b byte) 0 (suc (find byte bs)) (λ n. n ≤ suc (length bs)) (λ e. omega arith) (λ e. omega (arith, find_most byte bs))
 
 -- as the library's search has it
 pub find_is : (byte : ℕ) (text : List ℕ) → find byte text ≡ position_or_len (λ b. eqb b byte) text
@@ -50,19 +49,11 @@ starts_is [] text = refl
 starts_is (k ∷ ks) [] = refl
 starts_is (k ∷ ks) (b ∷ bs) = ap (λ (t : Bool). eqb b k && t) (starts_is ks bs)
 
-eqb_other_way : (x y : ℕ) → eqb x y ≡ eqb y x
-eqb_other_way x y =
-    by_cases (ℕ_discrete x y) (λ e. simp (eq-eqb x y e, eq-eqb y x (sym e)))
-    (λ other. simp (ne_eqb x y other, ne_eqb y x (λ e. other (sym e))))
-
-other_way : (xs ys : List ℕ) → pointwise eqb xs ys ≡ pointwise eqb ys xs
-other_way [] [] = refl
-other_way [] (y ∷ ys) = refl
-other_way (x ∷ xs) [] = refl
-other_way (x ∷ xs) (y ∷ ys) = ap₂ (λ (s t : Bool). s && t) (eqb_other_way x y) (other_way xs ys)
-
 pub starts_as : (key text : List ℕ) → starts_with key text ≡ pointwise eqb key (take (length key) text)
-starts_as key text = starts_is key text ∙ other_way (take (length key) text) key
+starts_as key text =
+    let front = take (length key) text in
+    let turned = bytes_eq-Decides key front in
+    starts_is key text ∙ same_from_decides (pointwise eqb front key) (pointwise eqb key front) (bytes_eq-Decides front key) (λ e. sym (turned.0 e), λ e. turned.1 (sym e))
 
 -- what a key that is stripped off leaves
 pub value_stripped : (key line : List ℕ) (r : Option (Bor (List ℕ))) (nothing : Bor (List ℕ)) → nothing.now ≡ [] → MatchOption r (pointwise eqb (take (length key) line) key ≡ false) (λ x. (pointwise eqb (take (length key) line) key ≡ true) × (x.now ≡ drop (length key) line) × (length x.now + length key ≡ length line)) → (unwrap_or r nothing).now ≡ value_behind key line
@@ -168,7 +159,7 @@ key_and_rest : (key line : List ℕ) → starts_with key line ≡ true → key +
 key_and_rest [] line e = refl
 key_and_rest (k ∷ ks) [] e = absurd (false≢true e)
 key_and_rest (k ∷ ks) (b ∷ bs) e =
-    let t = both_true (eqb b k) (starts_with ks bs) e in
+    let t = and_parts (eqb b k) (starts_with ks bs) e in
     ap₂ (λ (x : ℕ) (l : List ℕ). x ∷ l) (sym (eqb-true b k t.0)) (key_and_rest ks bs t.1)
 
 pub starts_key : (key value : List ℕ) → starts_with key (key ++ value) ≡ true

@@ -12,6 +12,7 @@ pub fn find_byte(text: &[u8], byte: u8) -> usize
 
 // The length of the text's first line, without its LF. Bytes without an LF are no line: they are read as an empty one, which
 // no key fits.
+// A number and no Option: what it promises, line_length of specs/, is 0 there.
 #[tactic(auto, unfolding(crate::specs::Find::line_length))]
 pub fn line_length(text: &[u8]) -> usize
     ensures { result ≡ line_length text.now }

@@ -12,6 +12,7 @@ fn read_entries(text: &[u8], count: usize) -> Option<[u8; 8]>
 {
     let mut values = [0u8; 8];
     let mut rest = text;
+    // A for over the index: it leaves early, where an entry is missing or is no number.
     for j in 0..count - 1 {
         let length = find_byte(rest, b',');
         if length == rest.len() {
@@ -25,6 +26,7 @@ fn read_entries(text: &[u8], count: usize) -> Option<[u8; 8]>
 }
 
 // What a text says as a list of one to eight entries; the values behind the listed ones are 0.
+// The number is how many entries the line has to have, not the text's length.
 #[tactic(auto, unfolding(crate::specs::Lists::listed))]
 pub fn read_list(text: &[u8], count: usize) -> Option<[u8; 8]>
     ensures { result ≡ listed count text.now }

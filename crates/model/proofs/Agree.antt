@@ -19,7 +19,9 @@ use Rattle.model.specs.Store.{Store, clocks_of, tallies_of}
 use Rattle.model.specs.Cuts.{Contains, consistent, box, cuts_between, gmin, gbnd, interval, all_cuts, total}
 use Rattle.model.specs.Agree.{AgreeTo, SameEvents}
 use Rattle.model.specs.Questions.{holding, sum_held, names, meets, first_of, answer}
-use Rattle.model.proofs.Tests.{same_test, all_below_same, sum_below_same}
+use Rattle.std.proofs.lemmas.Bool.Decides.{same_from_decides}
+use Rattle.std.proofs.lemmas.Float.{T_from_true}
+use Rattle.model.proofs.Tests.{holds, all_below_same, sum_below_same}
 use Rattle.model.proofs.Entries.{AtMost, same_entries}
 use Rattle.model.proofs.Lists.{keep_same}
 use Rattle.model.proofs.Ranges.{Consistent, consistent_holds, holds_consistent}
@@ -50,9 +52,9 @@ clocks_sym clk other bound agree e c = sym (agree e c)
 
 pub consistent_same : (clk other : Clocks) (bound G : List ℕ) → ClocksAgree clk other bound → consistent clk bound G ≡ consistent other bound G
 consistent_same clk other bound G agree =
-    same_test (consistent clk bound G) (consistent other bound G)
-    (λ t. holds_consistent other bound G (consistent_moves clk other bound G agree (consistent_holds clk bound G t)))
-    (λ t. holds_consistent clk bound G (consistent_moves other clk bound G (clocks_sym clk other bound agree) (consistent_holds other bound G t)))
+    same_from_decides {P = Consistent clk bound G} (consistent clk bound G) (consistent other bound G)
+    (λ e. consistent_holds clk bound G (T_from_true _ e), λ c. holds _ (holds_consistent clk bound G c))
+    (λ e. consistent_moves other clk bound G (clocks_sym clk other bound agree) (consistent_holds other bound G (T_from_true _ e)), λ c. holds _ (holds_consistent other bound G (consistent_moves clk other bound G agree c)))
 
 pub range_same : (clk other : Clocks) (low high : List ℕ) → ClocksAgree clk other high → cuts_between clk low high ≡ cuts_between other low high
 unfolding cuts_between

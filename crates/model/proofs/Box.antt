@@ -15,38 +15,27 @@ use Rattle.model.specs.Lexical.{lex_before, Rising}
 use Rattle.model.proofs.Lexical.{ahead, level, append_rising}
 
 -- one entry put before each of a list of vectors
-from_column : (v : ℕ) (rest : List (List ℕ)) (K : List ℕ) → Memᴰ K (map (λ G. v ∷ G) rest) → (G : List ℕ) × (K ≡ v ∷ G) × Memᴰ G rest
-from_column v [] K m = absurd (Memᴰ.not-nil m)
-from_column v (R ∷ rest) K m =
-    ⊎_elim (λ e. (R, e, Memᴰ.head refl)) (λ n. let r = from_column v rest K n in (r.0, r.1, Memᴰ.tail r.2))
-    (Memᴰ.cases_cons m)
-
-into_column : (v : ℕ) (rest : List (List ℕ)) (G : List ℕ) → Memᴰ G rest → Memᴰ (v ∷ G) (map (λ G. v ∷ G) rest)
-into_column v [] G m = absurd (Memᴰ.not-nil m)
-into_column v (R ∷ rest) G m =
-    ⊎_elim (λ e. Memᴰ.head (ap (λ (X : List ℕ). v ∷ X) e)) (λ n. Memᴰ.tail (into_column v rest G n)) (Memᴰ.cases_cons m)
-
 column_rising : (v : ℕ) (rest : List (List ℕ)) → Rising rest → Rising (map (λ G. v ∷ G) rest)
 column_rising v [] r = tt
 column_rising v (R ∷ rest) r = (
-  λ K m. let c = from_column v rest K m in subst (λ (X : List ℕ). T (lex_before (v ∷ R) X)) (sym c.1) (level v v R c.0 refl (r.0 c.0 c.2)),
+  λ K m. let c = Memᴰ.of_map (λ G. v ∷ G) rest m in subst (λ (X : List ℕ). T (lex_before (v ∷ R) X)) c.2 (level v v R c.0 refl (r.0 c.0 c.1)),
   column_rising v rest r.1,
 )
 
 -- the rows for a first entry from 0 to b
 from_rows : (b : ℕ) (rest : List (List ℕ)) (K : List ℕ) → Memᴰ K (rows b rest) → (v : ℕ) × (G : List ℕ) × (v ≤ b) × (K ≡ v ∷ G) × Memᴰ G rest
-from_rows zero rest K m = let c = from_column 0 rest K m in (0, c.0, omega arith, c.1, c.2)
+from_rows zero rest K m = let c = Memᴰ.of_map (λ G. 0 ∷ G) rest m in (0, c.0, omega arith, sym c.2, c.1)
 from_rows (suc b) rest K m =
     ⊎_elim
     (λ n. let r = from_rows b rest K n in (r.0, r.1, omega (arith, r.2), r.3, r.4))
-    (λ n. let c = from_column (suc b) rest K n in (suc b, c.0, omega arith, c.1, c.2))
+    (λ n. let c = Memᴰ.of_map (λ G. suc b ∷ G) rest n in (suc b, c.0, omega arith, sym c.2, c.1))
     (Memᴰ.append_cases (rows b rest) m)
 
 into_rows : (b : ℕ) (rest : List (List ℕ)) (v : ℕ) (G : List ℕ) → v ≤ b → Memᴰ G rest → Memᴰ (v ∷ G) (rows b rest)
-into_rows zero rest v G h m = let e : v ≡ 0 = omega arith in rw e (into_column 0 rest G m)
+into_rows zero rest v G h m = let e : v ≡ 0 = omega arith in rw e (Memᴰ.map (λ G. 0 ∷ G) m)
 into_rows (suc b) rest v G h m =
     by_cases (ℕ_discrete v (suc b))
-    (λ e. rw e (Memᴰ.append_right (rows b rest) (into_column (suc b) rest G m)))
+    (λ e. rw e (Memᴰ.append_right (rows b rest) (Memᴰ.map (λ G. suc b ∷ G) m)))
     (λ n. Memᴰ.append_left (map (λ G. suc b ∷ G) rest) (into_rows b rest v G (omega arith) m))
 
 rows_rising : (b : ℕ) (rest : List (List ℕ)) → Rising rest → Rising (rows b rest)
@@ -57,10 +46,10 @@ rows_rising (suc b) rest r =
     apart : (K L : List ℕ) → Memᴰ K (rows b rest) → Memᴰ L (map (λ G. suc b ∷ G) rest) → T (lex_before K L)
     apart K L m n =
         let c = from_rows b rest K m in
-        let d = from_column (suc b) rest L n in
+        let d = Memᴰ.of_map (λ G. suc b ∷ G) rest n in
         let low : c.0 ≤ b = c.2 in
         subst (λ (X : List ℕ). T (lex_before X L)) (sym c.3)
-        (subst (λ (X : List ℕ). T (lex_before (c.0 ∷ c.1) X)) (sym d.1) (ahead c.0 (suc b) c.1 d.0 (omega arith)))
+        (subst (λ (X : List ℕ). T (lex_before (c.0 ∷ c.1) X)) d.2 (ahead c.0 (suc b) c.1 d.0 (omega arith)))
 
 pub box_rising : (bound : List ℕ) → Rising (box bound)
 box_rising [] = (λ H m. absurd (Memᴰ.not-nil m), tt)

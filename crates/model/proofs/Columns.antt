@@ -7,10 +7,6 @@ use Rattle.std.specs.List.{list_all, range_with_len}
 use Rattle.model.specs.Lists.{all_below}
 use Rattle.model.proofs.Tests.{all_in_range, all_below_same}
 
--- in a loop over columns the tablet of column j has the number j + 1
-pub column_of_next : (j : ℕ) → j + 1 - 1 ≡ j
-column_of_next j = omega arith
-
 -- a test of each of the eight tablets by its number, and of what stands in its column
 pub all_columns : (rule : ℕ → ℕ → Bool) → list_all (λ i. rule (i + 1 - 1) i) (range_with_len 0 8) ≡ all_below 8 (λ j. rule j j)
 all_columns rule =

@@ -13,7 +13,8 @@ use Rattle.model.specs.Clocks.{Clocks, covered, known}
 use Rattle.model.specs.Refusals.{or_else}
 use Rattle.model.specs.Follow.{tablet_refusal, entry_fits, others_within, last_known, covers, clock_refusal, follow_refusal}
 use Rattle.model.proofs.Refusals.{or_else_next}
-use Rattle.model.proofs.Tests.{holds, from_true, all_below_at, all_below_all}
+use Rattle.std.proofs.lemmas.Float.{T_from_true}
+use Rattle.model.proofs.Tests.{holds, all_below_at, all_below_all}
 use Rattle.model.proofs.Entries.{AtMost, covered_at_most, at_most_covered}
 
 -- rules 13 to 16 as statements
@@ -105,7 +106,7 @@ may_follow_lem n clk tal i clock e =
     let p4 = passes (not (eqb (at clock own) (at tal own + 1))) 5 _ (omega arith) groups.1 in
     let p5 = passes (not (others_within n tal own clock)) 6 _ (omega arith) p4.1 in
     let p6 = passes (not (covers clk tal own clock)) 7 0 (omega arith) p5.1 in
-    let others = others_hold n tal own clock (from_true (others_within n tal own clock) (not-false (others_within n tal own clock) p5.0)) in
+    let others = others_hold n tal own clock (T_from_true (others_within n tal own clock) (not-false (others_within n tal own clock) p5.0)) in
     record {
       positive = tablet.0;
       listed = tablet.1;
@@ -113,7 +114,7 @@ may_follow_lem n clk tal i clock e =
       own = eqb-true (at clock own) (at tal own + 1) (not-false (eqb (at clock own) (at tal own + 1)) p4.0);
       others = λ j h other. below n tal own clock j other (others j h);
       above = λ j h other high. zero_above n tal own clock j other high (others j h);
-      covering = covers_holds clk tal own clock (from_true (covers clk tal own clock) (not-false (covers clk tal own clock) p6.0));
+      covering = covers_holds clk tal own clock (T_from_true (covers clk tal own clock) (not-false (covers clk tal own clock) p6.0));
     }
 
 pub follows_passes : (n : ℕ) (clk : Clocks) (tal : List ℕ) (i : ℕ) (clock : List ℕ) → Follows n clk tal i clock → follow_refusal n clk tal i clock ≡ 0

@@ -1,12 +1,11 @@
 -- Laws of tests: a conjunction, a condition, and `all_below` read at an index and built from every index.
-use mathlib.Core.Path.{◌≡◌, refl, sym, ap, ap₂, ◌∙◌}
-use mathlib.Core.Logic.{by_cases}
-use mathlib.Core.Bool.{Bool, true, false, false≢true, true≢false, ◌&&◌}
+use mathlib.Core.Path.{◌≡◌, refl, sym, ap, ap₂, subst, ◌∙◌}
+use mathlib.Core.Bool.{Bool, true, false, true≢false, ◌&&◌, and-true, and_assoc}
 use Prim.Native.Nat.{ℕ, zero, suc, ◌+◌, ◌≤◌, ◌<◌}
 use native.Mathlib.Nat.{not-suc-le-zero}
-use native.Mathlib.Decide.{ℕ_discrete}
 use native.Mathlib.Numerals.{add-one}
 use native.Mathlib.Omega.{arith}
+use borrow.Author.Count.{below_more}
 use lib.Dec.{T}
 use lib.ListN.{length, get_or}
 use mathlib.Core.List.{List, [], ◌∷◌}
@@ -25,14 +24,6 @@ pub and_both : (a b : Bool) → T a → T b → T (a && b)
 and_both true b s t = t
 and_both false b s t = s
 
-and_true : (b : Bool) → b && true ≡ b
-and_true true = refl
-and_true false = refl
-
-and_assoc : (a b c : Bool) → (a && b) && c ≡ a && (b && c)
-and_assoc true b c = refl
-and_assoc false b c = refl
-
 pub holds : (b : Bool) → T b → b ≡ true
 holds true t = refl
 holds false t = absurd t
@@ -41,31 +32,16 @@ pub fails : (b : Bool) → (T b → ⊥) → b ≡ false
 fails true n = absurd (n tt)
 fails false n = refl
 
-pub from_true : (b : Bool) → b ≡ true → T b
-from_true true e = tt
-from_true false e = absurd (false≢true e)
-
 -- a test holds or it does not
 pub decided : (b : Bool) → Dec (T b)
 decided true = yes tt
 decided false = no (λ t. t)
 
--- two tests that imply each other are equal
-pub same_test : (a b : Bool) → (T a → T b) → (T b → T a) → a ≡ b
-same_test true true f g = refl
-same_test true false f g = absurd (f tt)
-same_test false true f g = absurd (g tt)
-same_test false false f g = refl
-
--- what holds below n and at n holds below the next
-pub split_below : {P : ℕ → Type 0} (n : ℕ) → ((j : ℕ) → j < n → P j) → P n → (j : ℕ) → j < suc n → P j
-split_below {P} n below here j h =
-    by_cases (ℕ_discrete j n) (λ e. rw e here) (λ ne. below j (omega arith))
-
 pub all_below_at : (n : ℕ) (test : ℕ → Bool) → T (all_below n test) → (j : ℕ) → j < n → T (test j)
 all_below_at zero test t = λ j h. absurd (not-suc-le-zero h)
 all_below_at (suc n) test t =
-    split_below n (all_below_at n test (and_left (all_below n test) (test n) t)) (and_right (all_below n test) (test n) t)
+    subst (λ (m : ℕ). (j : ℕ) → j < m → T (test j)) (add-one n)
+    (below_more (λ j. T (test j)) n (all_below_at n test (and_left (all_below n test) (test n) t)) (and_right (all_below n test) (test n) t))
 
 pub all_below_all : (n : ℕ) (test : ℕ → Bool) → ((j : ℕ) → j < n → T (test j)) → T (all_below n test)
 all_below_all zero test f = tt
@@ -93,7 +69,7 @@ sum_below_same (suc n) f g same =
 
 -- a conjunction below the next number, read from its front
 all_below_front : (n : ℕ) (test : ℕ → Bool) → all_below (suc n) test ≡ test 0 && all_below n (λ j. test (suc j))
-all_below_front zero test = sym (and_true (test 0))
+all_below_front zero test = sym (and-true (test 0))
 all_below_front (suc n) test =
     ap (λ (b : Bool). b && test (suc n)) (all_below_front n test) ∙ and_assoc (test 0) (all_below n (λ j. test (suc j))) (test (suc n))
 

@@ -45,14 +45,14 @@ pub struct Event {
 }
 
 // Where a listing stands: nowhere yet, or just behind a cut. The cut of a place that is not begun is ignored. No Option of a
-// cut: rule 51 gives a refused place back as it was lent, begun or not, with its cut.
+// cut: rule 51 leaves a lent place as it was, begun or not, cut and all.
 #[derive(Clone, Copy, PartialEq, Eq)]
 pub struct Place {
     pub begun: bool,
     pub cut: Cut,
 }
 
-// What is asked of a cut. A set of tablets is a mask: tablet 1 is its lowest bit.
+// What is asked of a cut. A set of tablets is a mask, tablet 1 its lowest bit: rule 34 gives the set to the call so.
 #[derive(Clone, Copy, PartialEq, Eq)]
 pub enum Question {
     AtLeast(u32),
@@ -61,6 +61,7 @@ pub enum Question {
 }
 
 // The cuts that a question is put to.
+// No Option: the two are a caller's choice, not an answer that may be missing.
 #[derive(Clone, Copy, PartialEq, Eq)]
 pub enum Range {
     Interval(Position),

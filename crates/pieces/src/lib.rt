@@ -1,5 +1,5 @@
-// The bytes of a line that is being written, kept by value until it is known whether the caller's output has room for them.
-// Each method puts more bytes behind those that a piece has; the caller shows that they fit.
+// The bytes of a line that is being written: put together first, and kept until it is known whether the caller's output has
+// room for them. Each method puts more bytes behind those that a piece has; the caller shows that they fit.
 #![tactic(auto)]
 
 ghost use Rattle.std.specs.Prelude.{◌≡◌, [], ◌∷◌, ◌++◌, ◌+◌, ◌≤◌, ◌<◌, length};
@@ -14,15 +14,16 @@ use std::marker::Model;
 // How many bytes a piece has room for: `piece_room` of the contracts.
 pub const ROOM: usize = 96;
 
-// Not the kit's `ArrayVec`, whose clauses leave open what lies behind the bytes that were put; and no `fmt::Write`, whose
-// `write_str` may not ask for room, so that each line would have an error that never comes.
+// Not the kit's `ArrayVec`: it would stand inside such a struct all the same, since lines and numbers are put by methods, and
+// no heap may be used. And no `fmt::Write`, whose `write_str` may not ask for room, so that each line would have an error that
+// never comes.
 #[derive(Drop)]
 pub struct Piece {
     length: usize,
     bytes: [u8; ROOM],
 }
 
-// Clauses see the bytes that were put so far. Those behind them are 0, as they were in an empty piece.
+// Clauses see the bytes that were put so far, whatever lies behind them.
 impl Model for Piece {
     ghost use Rattle.std.specs.Prelude.{ℕ, List};
 
@@ -89,14 +90,14 @@ impl Piece {
         ensures { self.new ≡ self.old ++ comma_list values.now }
     {
         self.put_number(values[0] as u64);
-        for j in 1..values.len() {
+        for value in &values[1..] {
             self.put_byte(b',');
-            self.put_number(values[j] as u64);
+            self.put_number(*value as u64);
         }
     }
 
-    // A line with a number behind its key. It and the two below are three functions: one that took what stands behind the key as
-    // a closure would be no plainer.
+    // A line with a number behind its key. It and the two below are three functions: with a closure for the middle the contract
+    // would have to say what the call put, and that is longer than three lines.
     #[tactic(auto, using(crate::proofs::Lengths::key_line_length), unfolding(crate::specs::Lines::key_line))]
     pub fn put_line(&mut self, key: &[u8], n: u64)
         requires { length self.old + length (key_line key.now n) ≤ piece_room }

@@ -17,6 +17,7 @@ pub struct Holdings<'a> {
 
 impl Holdings<'_> {
     // What a tablet holds at a cut.
+    // "Bounded" is asked and is no type: the counts change at each step of a walk.
     #[tactic(auto, using(crate::proofs::Laws::holds_nothing, crate::proofs::Laws::holds_stored), unfolding(model::specs::Numbers::slot))]
     pub(crate) fn of(self, tablet: Tablet, counts: &[u8; 8]) -> u16
         requires { (1 ≤ tablet.0) × (tablet.0 ≤ 8) × Bounded counts.now }
@@ -35,10 +36,8 @@ impl Holdings<'_> {
         requires { Bounded counts.now }
         ensures { ForHeld self.entry.held.now (λ s. result ≡ sum_held s counts.now) }
     {
-        let mut sum = 0;
-        for j in 0..8 {
-            sum += u32::from(self.of(Tablet(j + 1), counts));
-        }
-        sum
+        (0..8)
+            .map(|j| u32::from(self.of(Tablet(j + 1), counts)))
+            .sum()
     }
 }

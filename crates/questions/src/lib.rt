@@ -14,6 +14,7 @@ use model::Question;
 use sets::{all_hold, set_fits};
 
 // Whether a cut meets a question. Of a store only the held values are read.
+// "Bounded" is asked and is no type: the counts change at each step of a walk.
 #[tactic(auto, unfolding(model::specs::Questions::meets))]
 pub fn cut_meets(holdings: Holdings, question: Question, counts: &[u8; 8]) -> bool
     requires { Bounded counts.now }

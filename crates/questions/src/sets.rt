@@ -1,4 +1,4 @@
-// Named sets of tablets: a mask of eight bits, tablet 1 the lowest.
+// Named sets of tablets: a mask of eight bits, tablet 1 the lowest, since rule 34 gives the set to the call so.
 ghost use Rattle.std.specs.Prelude.{◌≡◌, ◌<◌, true, cond};
 ghost use Rattle.model.specs.Questions.{names, set_fits};
 ghost use Rattle.store.specs.Outcomes.{Bounded};
@@ -25,6 +25,7 @@ fn holds_if_named(mask: u8, j: u8, fact: bool) -> bool
 }
 
 // Whether each tablet that the mask names holds at least 1.
+// "Bounded" is asked and is no type: the counts change at each step of a walk.
 pub(crate) fn all_hold(holdings: Holdings, mask: u8, counts: &[u8; 8]) -> bool
     requires { Bounded counts.now }
     ensures { ForHeld holdings.entry.held.now (λ s. result ≡ each_named s mask counts.now) }

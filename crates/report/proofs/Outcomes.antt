@@ -20,9 +20,9 @@ use Rattle.model.specs.Cuts.{total}
 use Rattle.model.specs.Questions.{Witness}
 use Rattle.model.proofs.Refusals.{number_positive}
 use Rattle.questions.specs.Holdings.{question_fits}
-use Rattle.cuts.specs.Outcomes.{AskOutcome, asked, refused_asking, ask_in}
+use Rattle.cuts.specs.Outcomes.{AskOutcome, asked, cut_found, refused_asking, ask_in}
 use Rattle.answerlines.specs.Printing.{head_lines, tail_lines, answer_lines}
-use Rattle.answerlines.specs.Outputs.{LinesAt, witness_entries}
+use Rattle.answerlines.specs.Outputs.{LinesAt}
 use Rattle.answerlines.proofs.Lines.{lines_agree}
 use Rattle.report.specs.declared.Refused.{Refused}
 use Rattle.report.specs.Answers.{witness_of, count_of}
@@ -56,7 +56,7 @@ refused_fit true w s out why is =
     let no : ⊥ = omega (arith, number_positive why, ap (λ (o : AskOutcome). o.refusal) is) in absurd no
 refused_fit false w s out why is = ap (λ k. refused_shown k 0 out) (ap (λ (o : AskOutcome). o.refusal) is)
 
-given_fit : (b : Bool) (w : Witness) (s : Store) (out : List ℕ) (found : Option Cut) → asked (Ok found) ≡ pick b w → counting s (is_some found) (witness_entries found) out ≡ by_fit b w s out
+given_fit : (b : Bool) (w : Witness) (s : Store) (out : List ℕ) (found : Option Cut) → asked (Ok found) ≡ pick b w → counting s (is_some found) (cut_found found) out ≡ by_fit b w s out
 given_fit false w s out found is = let no : ⊥ = omega (arith, ap (λ (o : AskOutcome). o.refusal) is) in absurd no
 given_fit true w s out None is = ap (λ (o : AskOutcome). counting s o.found o.cut out) is
 given_fit true w s out (Some cut) is = ap (λ (o : AskOutcome). counting s o.found o.cut out) is
@@ -66,7 +66,7 @@ module _ (s : Store) (question : Question) (out : List ℕ) (r : Result (Option 
   unfolding answering
   answering_refused why was = refused_fit (question_fits s.tablets question) (witness_of s question) s out why (ap asked (sym was) ∙ is)
 
-  pub answering_given : (found : Option Cut) → r ≡ Ok found → counting s (is_some found) (witness_entries found) out ≡ answering s question out
+  pub answering_given : (found : Option Cut) → r ≡ Ok found → counting s (is_some found) (cut_found found) out ≡ answering s question out
   unfolding answering
   answering_given found was = given_fit (question_fits s.tablets question) (witness_of s question) s out found (ap asked (sym was) ∙ is)
 

@@ -24,7 +24,7 @@ pub const SLOTS: usize = 2032;
 
 pub const CLOCKS_SIZE: usize = 8 * SLOTS;
 
-// A refusal and its line; 0 where there is none to name.
+// A refusal and its line. No Option: line 0 where there is none to name, as `reporting` of specs/ gives it.
 #[derive(Clone, Copy, PartialEq, Eq)]
 pub struct Refused {
     pub why: Refusal,
@@ -48,10 +48,7 @@ pub fn make_report(input: &[u8], buffers: &mut Buffers, out: &mut [u8]) -> Repor
 {
     if out.len() < OUTPUT_SIZE {
         return Reported {
-            answer: Err(Refused {
-                why: Refusal::ShortOutput,
-                line: 0,
-            }),
+            answer: Err(Refusal::ShortOutput.into()),
             length: 0,
         };
     }

@@ -9,7 +9,7 @@ use pieces::empty_piece;
 
 const REFUSED: [u8; 8] = *b"refused=";
 
-// Gives how many bytes the line has.
+// Gives how many bytes the line has. Not by `fmt::Write`: see `Piece`.
 #[tactic(auto, using(crate::proofs::Showing::pair_most))]
 pub(crate) fn write_refusal(refused: Refused, out: &mut [u8]) -> usize
     requires { piece_room ≤ length out.old }

@@ -15,6 +15,7 @@ pub(crate) fn count_all(trace: Sound, counts: &mut [u64]) -> Option<u64>
 {
     let mut tallies = [0u8; 8];
     let mut sum: u64 = 0;
+    // A for over the index: it is the position that is counted, and the place of its count.
     for p in 0..=trace.record.events {
         let count = count_interval_with(trace, Position(p), tallies).ok()?;
         sum = sum.checked_add(count)?;

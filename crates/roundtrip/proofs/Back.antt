@@ -2,7 +2,7 @@
 use mathlib.Core.Path.{◌≡◌, refl, sym, ap, ap₂, ◌∙◌, subst}
 use mathlib.Core.Logic.{◌≢◌, by_cases}
 use mathlib.Core.Bool.{Bool, true, false, cond}
-use mathlib.Core.List.{List, [], ◌∷◌, ◌++◌, append_assoc, append-nil}
+use mathlib.Core.List.{List, ◌∷◌, ◌++◌, append_assoc, append-nil}
 use Prim.Native.Nat.{ℕ, zero, suc, ◌+◌, ◌-◌, ◌≤◌, ◌<◌}
 use native.Mathlib.Omega.{arith}
 use native.Mathlib.Numerals.{add-one}
@@ -44,19 +44,13 @@ use Rattle.writer.proofs.Pieces.{piece_first, piece_event, piece_last}
 
 -- lines, with what follows them
 
-line_then : (key middle rest : List ℕ) → (key ++ (middle ++ (10 ∷ []))) ++ rest ≡ (key ++ middle) ++ (10 ∷ rest)
-line_then key middle rest =
-    append_assoc key (middle ++ (10 ∷ [])) rest
-    ∙ ap (λ (l : List ℕ). key ++ l) (append_assoc middle (10 ∷ []) rest)
-    ∙ sym (append_assoc key middle (10 ∷ rest))
-
 pub key_line_then : (key : List ℕ) (v : ℕ) (rest : List ℕ) → key_line key v ++ rest ≡ (key ++ decimal v) ++ (10 ∷ rest)
 unfolding key_line
-key_line_then key v rest = line_then key (decimal v) rest
+key_line_then key v rest = simp (append_assoc)
 
 pub clock_text_then : (vs rest : List ℕ) → list_line clock_key vs ++ rest ≡ (clock_key ++ comma_list vs) ++ (10 ∷ rest)
 unfolding list_line
-clock_text_then vs rest = line_then clock_key (comma_list vs) rest
+clock_text_then vs rest = simp (append_assoc)
 
 pub number_line_back : (key : List ℕ) (limit : ℕ) (text : List ℕ) (v : ℕ) → number_line key limit text ≡ Some v → text ≡ key_line key v ++ rest_lines text
 unfolding number_line

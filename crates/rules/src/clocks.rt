@@ -42,8 +42,9 @@ pub fn is_covered(known: &[u8], clock: &[u8]) -> bool
     known.iter().zip(clock).all(|(told, entry)| told <= entry)
 }
 
-// Whether the clock of a tablet's event is at most another in each entry. The number 0 stands for no event yet, which knows
-// nothing. The other clock is lent as it lies, and may be longer: an array of eight would ask more of callers.
+// Whether the clock of a tablet's event is at most another in each entry. The number 0 is "none yet", which knows nothing:
+// rule 16's `known` of specs/ reads it so. The other clock is lent as it lies, and may be longer: an array of eight would
+// ask more of callers.
 pub fn known_covered(clocks: Clocks, tablet: Tablet, number: EventNumber, clock: &[u8]) -> bool
     requires { (1 ≤ tablet.0) × (tablet.0 ≤ 8) × (number.0 ≤ 254) × (8 ≤ length clock.now) }
     ensures { result ≡ covered (known (clock_at clocks.entry.bytes.now) (column tablet) number.0) clock.now }

@@ -64,6 +64,7 @@ impl Past<'_> {
         Ok(())
     }
 
+    // Like covers_known in form alone: another test of each column.
     fn others_within(self, own: Tablet, clock: &[u8]) -> bool
         requires { (1 ≤ own.0) × (8 ≤ length clock.now) }
         ensures { result ≡ others_within self.entry.tablets self.entry.tallies (column own) clock.now }
@@ -75,6 +76,7 @@ impl Past<'_> {
     }
 
     // At most n of the eight need a comparison: above n nothing is known.
+    // Like others_within in form alone: another test of each column.
     fn covers_known(self, own: Tablet, clock: &[u8]) -> bool
         requires { (1 ≤ own.0) × Readable self.tallies (column own) clock.now }
         ensures { result ≡ covers (clock_at self.entry.clocks.bytes.now) self.entry.tallies (column own) clock.now }

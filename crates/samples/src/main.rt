@@ -2,9 +2,11 @@
 // beside the day. One line for each day: its name and `same`, or where the two first differ.
 #![tactic(auto)]
 
-use report::{Buffers, CLOCKS_SIZE, OUTPUT_SIZE, SLOTS};
+use report::{Buffers, CLOCKS_SIZE, INPUT_SIZE, OUTPUT_SIZE, SLOTS};
+use std::fs::File;
+use std::io::Read;
 use std::rt::Files;
-use std::{fmt, fs, io};
+use std::{fmt, io};
 
 // A program cannot list a folder, so each day is named here; .ci/run fails where data/ has a file that is not.
 const DAYS: [&str; 14] = [
@@ -24,15 +26,23 @@ const DAYS: [&str; 14] = [
     "tablet-not-in-use",
 ];
 
-// Reads a file. One that cannot be read is said on standard error, and counts as empty.
-fn load<R: Files + Alloc + Eprint>(rt: &R, path: &str) -> io::Result<Vec<u8, R::A>> {
-    match fs::read(rt, path) {
-        Ok(bytes) => Ok(bytes),
+// One byte more than an answer has, enough to know that a stored one is longer.
+const STORED_SIZE: usize = OUTPUT_SIZE + 1;
+
+// Reads at most so many bytes of a file. One that cannot be opened is said on standard error, and counts as empty.
+fn load<R: Files + Alloc + Eprint>(rt: &R, path: &str, most: usize) -> Vec<u8, R::A> {
+    let mut bytes = Vec::new(rt.alloc());
+    match File::open(rt, path) {
+        Ok(file) => {
+            // What was read before a failure stays in `bytes`, and counts.
+            let _ = file.take(most as u64).read_to_end(&mut bytes);
+        }
         Err(error) => {
-            eprintln!(rt; "{path}: {error}")?;
-            Ok(Vec::new(rt.alloc()))
+            // Nobody is left to tell where standard error fails too.
+            let _ = eprintln!(rt; "{path}: {error}");
         }
     }
+    bytes
 }
 
 // What a report and the stored answer are to each other.
@@ -56,7 +66,8 @@ impl fmt::Display for Outcome {
     }
 }
 
-// The first index at which two texts differ, or the shorter one's length where the other begins with it.
+// The first index at which two texts differ, or the shorter one's length where the other begins with it. No Option: it is printed
+// in each case.
 fn first_difference(made: &[u8], stored: &[u8]) -> usize {
     made.iter()
         .zip(stored)
@@ -96,8 +107,16 @@ fn try_report(input: &[u8], stored: &[u8]) -> Outcome {
 }
 
 fn try_day<R: Files + Alloc + Print + Eprint>(rt: &R, day: &str) -> io::Result<()> {
-    let input = load(rt, format!(in rt.alloc(); "{day}.txt")?.as_str())?;
-    let stored = load(rt, format!(in rt.alloc(); "{day}.answer")?.as_str())?;
+    let input = load(
+        rt,
+        format!(in rt.alloc(); "{day}.txt")?.as_str(),
+        INPUT_SIZE,
+    );
+    let stored = load(
+        rt,
+        format!(in rt.alloc(); "{day}.answer")?.as_str(),
+        STORED_SIZE,
+    );
     println!(rt; "{day}.txt {}", try_report(&input, &stored))
 }
 

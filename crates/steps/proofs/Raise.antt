@@ -11,7 +11,7 @@ use lib.Seq.{get_or-set_same, get_or-set_other}
 use Rattle.model.specs.Lists.{at, max_below}
 use Rattle.model.specs.Clocks.{Clocks, clock_at, known}
 use Rattle.model.specs.Step.{up_to, least, raised}
-use Rattle.model.proofs.Columns.{column_of_next}
+use native.Mathlib.Nat.{add-sub_cancel}
 use Rattle.model.proofs.Entries.{same_entries}
 use Rattle.model.proofs.Largest.{max_below_same}
 use Rattle.model.proofs.Raised.{up_own, up_other, raised_upto, raised_behind, raised_long}
@@ -26,7 +26,7 @@ needed clk low counts k i = max (at low i) (max_below (k + 1) (λ m. at (known c
 pub needed_told : (clk : Clocks) (low counts : List ℕ) (i j entry : ℕ) → 1 ≤ i → entry ≡ max (at low j) (max_below i (λ m. at (known clk m (at counts m)) (j + 1 - 1))) → entry ≡ needed clk low counts (i - 1) j
 needed_told clk low counts i j entry some told =
     let upto : i ≡ i - 1 + 1 = omega arith in
-    told ∙ ap₂ (λ (l x : ℕ). max (at low j) (max_below l (λ m. at (known clk m (at counts m)) x))) upto (column_of_next j)
+    told ∙ ap₂ (λ (l x : ℕ). max (at low j) (max_below l (λ m. at (known clk m (at counts m)) x))) upto (add-sub_cancel j 1)
 
 -- the list after the columns before j are filled
 pub record Filled (clk : Clocks) (low first : List ℕ) (k n : ℕ) (next : List ℕ) (j : ℕ) : Type 0 where

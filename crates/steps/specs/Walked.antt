@@ -7,15 +7,15 @@ use Rattle.model.specs.Ranges.{InRange}
 use Rattle.model.specs.Step.{step}
 use Rattle.steps.specs.declared.walk.Walk.{Walk}
 
-abbrev pub clocks_of : Walk → Clocks
-clocks_of w = clock_at w.clocks.bytes.now
+abbrev pub walk_clocks : Walk → Clocks
+walk_clocks w = clock_at w.clocks.bytes.now
 
 abbrev pub cuts_of : Walk → List (List ℕ)
-cuts_of w = cuts_between (clocks_of w) w.low.counts w.high.counts
+cuts_of w = cuts_between (walk_clocks w) w.low.counts w.high.counts
 
 -- at one of its cuts
 abbrev pub Standing : Walk → List ℕ → Type 0
-Standing w G = InRange (clocks_of w) w.low.counts w.high.counts G
+Standing w G = InRange (walk_clocks w) w.low.counts w.high.counts G
 
 abbrev pub step_of : Walk → List ℕ → Option (List ℕ)
-step_of w G = step (clocks_of w) w.low.counts w.high.counts G
+step_of w G = step (walk_clocks w) w.low.counts w.high.counts G

@@ -6,13 +6,14 @@ ghost use Rattle.model.specs.Numbers.{column};
 ghost use Rattle.model.specs.Clocks.{clock_at, known};
 ghost use Rattle.model.specs.Step.{can_raise, raised};
 ghost use Rattle.steps.specs.Walk.{Raisable, Known, stepped, next_after};
-ghost use Rattle.steps.specs.Walked.{Standing, clocks_of, step_of};
+ghost use Rattle.steps.specs.Walked.{Standing, step_of, walk_clocks};
 
 use crate::walk::Walk;
 use model::{EventNumber, Tablet};
 use store::inner::Clocks;
 
-// What an event of one tablet knows of another. The number 0 stands for no event yet, which knows nothing.
+// What an event of one tablet knows of another. The number 0 is "none yet", which knows nothing: rule 16's
+// `known` of specs/ reads it so.
 #[tactic(auto, using(model::proofs::Entries::at_zeros, model::proofs::Ranges::known_event))]
 fn known_entry(clocks: Clocks, tablet: Tablet, number: EventNumber, other: Tablet) -> u8
     requires { (1 ≤ tablet.0) × (tablet.0 ≤ 8) × (number.0 ≤ 254) × (1 ≤ other.0) × (other.0 ≤ 8) }
@@ -30,6 +31,7 @@ fn least_entry(clocks: Clocks, counts: &[u8; 8], last: Tablet, other: Tablet, fl
     ensures { result ≡ max floor (max_below last.0 (λ i. at (known (clock_at clocks.entry.bytes.now) i (at counts.now i)) (column other))) }
 {
     let mut most = floor;
+    // A for over the index: the count and the tablet are both read at it.
     for i in 0..last.0 {
         let count = EventNumber(counts[i as usize]);
         most = most.max(known_entry(clocks, Tablet(i + 1), count, other));
@@ -41,7 +43,7 @@ impl Walk<'_> {
     #[tactic(auto, using(crate::proofs::Entries::raise_no_room, crate::proofs::Entries::raise_unready, crate::proofs::Entries::raise_ready))]
     fn can_raise(&self, counts: &[u8; 8], tablet: Tablet) -> bool
         requires { (1 ≤ tablet.0) × (tablet.0 ≤ 8) }
-        ensures { result ≡ can_raise (clocks_of self.now) self.now.high.counts counts.now (column tablet) }
+        ensures { result ≡ can_raise (walk_clocks self.now) self.now.high.counts counts.now (column tablet) }
     {
         let own = tablet.0 as usize - 1;
         let count = counts[own];
@@ -49,6 +51,8 @@ impl Walk<'_> {
             return false;
         }
         let knows = self.clocks.stored(tablet, EventNumber(count + 1));
+        // A for: `all` over the index and over a zip were tried: cuts are then counted a quarter to a third more slowly,
+        // below the ratios of docs/PERFORMANCE.md.
         for j in 0..own {
             if counts[j] < knows[j] {
                 return false;
@@ -59,9 +63,10 @@ impl Walk<'_> {
 
     fn raise(&self, counts: &mut [u8; 8], tablet: Tablet)
         requires { (1 ≤ tablet.0) × Raisable self.now.tablets self.now.clocks.bytes.now self.now.low.counts self.now.high.counts counts.old (column tablet) }
-        ensures { counts.new ≡ raised (clocks_of self.now) self.now.low.counts counts.old (column tablet) }
+        ensures { counts.new ≡ raised (walk_clocks self.now) self.now.low.counts counts.old (column tablet) }
     {
         counts[tablet.0 as usize - 1] += 1;
+        // A for over the index: the count, the tablet and the floor are all read at it.
         for i in tablet.0..self.tablets {
             let j = i as usize;
             counts[j] = least_entry(

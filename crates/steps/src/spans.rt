@@ -14,6 +14,7 @@ pub struct Span {
 }
 
 // The tallies after one position more: that of the event's tablet is raised. They are changed in place.
+// "Countable" binds the bytes to a position, another in each call, so it is no type.
 #[tactic(auto, using(model::proofs::Valid::at_tallies, model::proofs::Valid::tally_own, store::proofs::Laws::tallies_raised))]
 pub fn tally_next(order: &[u8], position: Position, counts: &mut [u8; 8])
     requires { Countable order.now (position.0 + 1) × (counts.old ≡ tallies order.now position.0) }
@@ -61,6 +62,7 @@ pub fn interval_span(clocks: Clocks, order: &[u8], position: Position, counts: [
 }
 
 // The whole trace: from the empty cut to the tallies.
+// The number is a position, not the list's length.
 #[tactic(auto, unfolding(model::specs::Lists::zeros))]
 pub fn trace_span(order: &[u8], events: u16) -> Span
     requires { Countable order.now events }

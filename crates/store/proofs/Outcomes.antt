@@ -1,13 +1,11 @@
 -- The two ways of an event offered to a sound store.
 use mathlib.Core.Path.{◌≡◌, sym, ap, ap₂, ◌∙◌, subst}
-use mathlib.Core.Logic.{◌≢◌}
-use mathlib.Core.Bool.{Bool, cond}
 use mathlib.Core.List.{List}
 use Prim.Native.Nat.{ℕ, ◌≤◌}
 use native.Mathlib.Omega.{arith}
 use borrow.Author.Tests.{eq-eqb, ne_eqb}
-use lib.Dec.{eqb}
 use Rattle.std.specs.Prelude.{Result, Ok, Err, IsErrAnd}
+use Rattle.std.proofs.lemmas.Bool.{cond-true, cond-false}
 use Rattle.std.proofs.lemmas.Result.{err_from_is_err_and}
 use Rattle.model.specs.declared.Event.{Event}
 use Rattle.model.specs.declared.Refusal.{Refusal}
@@ -21,21 +19,12 @@ use Rattle.model.specs.declared.Record.{Record}
 use Rattle.model.specs.Store.{Store, tallies_of, event_refusal, accepted}
 use Rattle.store.specs.Outcomes.{store_at, Outcome, appended, tallies_left, appending, AppendReady, WriteReady, AppendedTo, Stored}
 
--- a choice by whether a number is 0
-pub when_zero : {A : Type 0} (n : ℕ) (x y : A) → n ≡ 0 → cond (eqb n 0) x y ≡ x
-when_zero n x y e = ap (λ (b : Bool). cond b x y) (eq-eqb n 0 e)
-
-pub when_some : {A : Type 0} (n : ℕ) (x y : A) → 1 ≤ n → cond (eqb n 0) x y ≡ y
-when_some n x y h =
-    let some : n ≢ 0 = omega arith in
-    ap (λ (b : Bool). cond b x y) (ne_eqb n 0 some)
-
 module _ (s : Store) (e : Event) where
   pub append_passed : event_refusal s e ≡ 0 → appending s e ≡ record { refusal = 0; store = accepted s e }
-  append_passed z = when_zero (event_refusal s e) (record { refusal = 0; store = accepted s e }) (record { refusal = event_refusal s e; store = s }) z
+  append_passed z = cond-true _ _ _ (eq-eqb (event_refusal s e) 0 z)
 
   pub append_refused : 1 ≤ event_refusal s e → appending s e ≡ record { refusal = event_refusal s e; store = s }
-  append_refused h = when_some (event_refusal s e) (record { refusal = 0; store = accepted s e }) (record { refusal = event_refusal s e; store = s }) h
+  append_refused h = cond-false _ _ _ (ne_eqb (event_refusal s e) 0 (omega arith))
 
   appended_refused : (counts : List ℕ) (number : ℕ) → AppendReady s counts → number ≡ event_refusal s e → 1 ≤ event_refusal s e → AppendedTo s e (record { refusal = number; store = s }) counts
   appended_refused counts number ready told some =

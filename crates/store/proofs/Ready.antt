@@ -13,7 +13,7 @@ use Rattle.model.specs.Lists.{at}
 use Rattle.model.specs.Numbers.{tablets_fit, slot, column}
 use Rattle.model.specs.Follow.{tally, tallies}
 use Rattle.model.specs.Store.{Store, record_of, clocks_of, tallies_of, full_size, valid, record_refusal, store_refusal, accepted, event_refusal}
-use Rattle.model.proofs.Tests.{from_true}
+use Rattle.std.proofs.lemmas.Float.{T_from_true}
 use Rattle.model.proofs.Follow.{Follows, may_follow_lem, passes, or_else_none}
 use Rattle.model.proofs.Causal.{event}
 use Rattle.model.proofs.Valid.{at_tallies}
@@ -37,10 +37,10 @@ module _ (s : Store) (none : store_refusal s ≡ 0) where
       (record_fits (record_of s) groups.0, not-false (full_size s) p2.0, not-false (valid s) p3.0)
 
   pub tested_sound : Sound s
-  tested_sound = sound s (from_true (tablets_fit s.tablets) links.0) (from_true (valid s) links.2)
+  tested_sound = sound s (T_from_true (tablets_fit s.tablets) links.0) (T_from_true (valid s) links.2)
 
   pub tested_full : Full s
-  tested_full = full_sizes_lem s (from_true (full_size s) links.1)
+  tested_full = full_sizes_lem s (T_from_true (full_size s) links.1)
 
   -- no tally is above 254
   pub tested_bounded : (j : ℕ) → j < 8 → at (tallies_of s) j ≤ 254

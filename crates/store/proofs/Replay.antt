@@ -13,7 +13,7 @@ use Rattle.model.specs.Follow.{column_at, tally, tallies, event_at, follow_refus
 use Rattle.model.specs.Store.{Store, clocks_of, held_of, tallies_of, store_refusal, accepted, event_refusal}
 use Rattle.model.specs.Cuts.{Contains}
 use Rattle.model.specs.Agree.{AgreeTo}
-use Rattle.model.proofs.Tests.{split_below}
+use borrow.Author.Count.{below_more}
 use Rattle.model.proofs.Follow.{Follows, follows_passes}
 use Rattle.model.proofs.Valid.{at_tallies, new_or_old}
 use Rattle.model.proofs.Slots.{clock_long}
@@ -111,7 +111,7 @@ module _ (s : Store) (none : store_refusal s ≡ 0) (q : ℕ) (inside : q < s.ev
     agree_next =
         record {
           tablets = agree.tablets ∙ kept.tablets;
-          order = split_below {P = λ p. get_or s.order p 0 ≡ get_or next.order p 0} q (λ p h. agree.order p h ∙ kept.order p (omega arith)) (sym byte);
+          order = λ p h. below_more (λ p. get_or s.order p 0 ≡ get_or next.order p 0) q (λ p h. agree.order p h ∙ kept.order p (omega arith)) (sym byte) p (omega arith);
           clocks = λ x c. ⊎_elim
               (λ old. agree.clocks x old ∙ kept.clocks x (older x old))
               (λ new. ap (clock_of (clocks_of s)) (in_both x new.0 new.1) ∙ sym (ap (clock_of (clocks_of next)) (named x new.0 new.1) ∙ clock_stored r rsnd rfull event stored_long may))

@@ -16,7 +16,9 @@ use Rattle.model.proofs.Accepted.{accepted_sound, accepted_full}
 use Rattle.store.specs.Outcomes.{Outcome, appending, accepting, AppendReady, AppendedTo}
 use Rattle.store.proofs.Verdicts.{some_tablets, record_passes, by_valid}
 use Rattle.store.proofs.Ready.{tested_sound, tested_full, tested_bounded}
-use Rattle.store.proofs.Outcomes.{append_passed, append_refused, when_zero, when_some}
+use borrow.Author.Tests.{eq-eqb, ne_eqb}
+use Rattle.std.proofs.lemmas.Bool.{cond-true, cond-false}
+use Rattle.store.proofs.Outcomes.{append_passed, append_refused}
 
 sound_passes : (s : Store) → Sound s → Full s → store_refusal s ≡ 0
 sound_passes s snd full =
@@ -39,11 +41,11 @@ pub refused_leaves : (s : Store) (e : Event) → 1 ≤ (accepting s e).refusal �
 refused_leaves s e some = by_cases (dec_le 1 (store_refusal s)) by_store (λ n. by_event (omega arith))
   where
     by_store : 1 ≤ store_refusal s → (accepting s e).store ≡ s
-    by_store h = ap (λ (o : Outcome). o.store) (when_some (store_refusal s) (appending s e) (record { refusal = store_refusal s; store = s }) h)
+    by_store h = ap (λ (o : Outcome). o.store) (cond-false _ _ _ (ne_eqb (store_refusal s) 0 (omega arith)))
 
     by_event : store_refusal s ≡ 0 → (accepting s e).store ≡ s
     by_event z =
-        let as-offered : accepting s e ≡ appending s e = when_zero (store_refusal s) (appending s e) (record { refusal = store_refusal s; store = s }) z in
+        let as-offered : accepting s e ≡ appending s e = cond-true _ _ _ (eq-eqb (store_refusal s) 0 z) in
         by_cases (dec_le 1 (event_refusal s e))
         (λ h. ap (λ (o : Outcome). o.store) (as-offered ∙ append_refused s e h))
         (λ n. let may : event_refusal s e ≡ 0 = omega arith in

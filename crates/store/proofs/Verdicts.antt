@@ -18,7 +18,8 @@ use Rattle.model.specs.Numbers.{tablets_fit}
 use Rattle.model.specs.Refusals.{number_of, verdict_number, or_else}
 use Rattle.model.specs.Follow.{follow_to}
 use Rattle.model.specs.Store.{Store, record_of, clocks_of, full_size, full_sizes, valid, record_refusal, store_refusal}
-use Rattle.model.proofs.Tests.{and_right, from_true}
+use Rattle.std.proofs.lemmas.Float.{T_from_true}
+use Rattle.model.proofs.Tests.{and_right}
 use Rattle.model.proofs.Refusals.{or_else_next, or_else_first, passed_zero, refused_some, and_chain}
 use Rattle.model.proofs.Follow.{passes, or_else_none}
 use Rattle.model.proofs.Sound.{Full, full_sizes_lem}
@@ -41,7 +42,7 @@ module _ (r : Record) where
 -- a record that passes has at most 8 tablets
 pub narrow_record : (r : Record) → record_refusal r ≡ 0 → r.tablets ≤ 8
 narrow_record r z =
-    leb→le r.tablets 8 (and_right (leb 1 r.tablets) (leb r.tablets 8) (from_true (tablets_fit r.tablets) (record_fits r z)))
+    leb→le r.tablets 8 (and_right (leb 1 r.tablets) (leb r.tablets 8) (T_from_true (tablets_fit r.tablets) (record_fits r z)))
 
 -- a chain that was refused before its last link is refused so as a whole
 cut_short : (a : ℕ) (b : Bool) (rest : ℕ) → 1 ≤ or_else a (cond b 2 0) → or_else a (cond b 2 rest) ≡ or_else a (cond b 2 0)
@@ -106,7 +107,7 @@ module _ (s : Store) where
       passed = passed_before (passed_zero both given before_events told went)
 
       pub tested_sizes : (s.tablets ≤ 8) × Full s
-      tested_sizes = (narrow_record (record_of s) passed.0, full_sizes_lem s (from_true (full_size s) passed.1))
+      tested_sizes = (narrow_record (record_of s) passed.0, full_sizes_lem s (T_from_true (full_size s) passed.1))
 
       rest : store_refusal s ≡ cond (not (valid s)) 3 0
       rest = by_valid passed.0 passed.1

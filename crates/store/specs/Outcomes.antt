@@ -29,11 +29,13 @@ pub record Opened : Type 0 where
   pub refusal : ℕ
   pub returned : Record
 
--- the record that goes on: what the call gives, or the one given where it refuses
+-- rule 51: the record that goes on: what the call gives, or, where it refuses, the first argument: the record given to an
+-- accept, none for an opening
 abbrev pub record_left : Record → Result Record Refusal → Record
 record_left given (Ok r) = r
 record_left given (Err why) = given
 
+-- rule 51: (0, 0) for a refused opening
 abbrev pub opened : Result Record Refusal → Opened
 opened answer =
     record { refusal = verdict_number answer; returned = record_left no_record answer }
@@ -48,6 +50,7 @@ pub record Outcome : Type 0 where
   pub refusal : ℕ
   pub store : Store
 
+-- rule 51: where an accept refuses, the record is the one given
 abbrev pub taken : Record → Result Record Refusal → List ℕ → List ℕ → List ℕ → Outcome
 taken given answer clocks held order =
     record { refusal = verdict_number answer; store = store_of (record_left given answer) clocks held order }
@@ -72,15 +75,17 @@ pub record WriteReady (s : Store) (tallies : List ℕ) (e : Event) : Type 0 wher
   pub ready : AppendReady s tallies
   pub may : event_refusal s e ≡ 0
 
--- the append's outcome, and the tallies of the store at exit: where the event is refused, record and tallies are those given
+-- rule 51: the record that goes on: the append's, or the one given where it refuses the event
 abbrev pub record_after : Record → Result Appended Refusal → Record
 record_after given (Ok done) = done.record
 record_after given (Err why) = given
 
+-- the append's outcome, with that record and the buffers at exit
 abbrev pub appended : Record → Result Appended Refusal → List ℕ → List ℕ → List ℕ → Outcome
 appended given answer clocks held order =
     record { refusal = verdict_number answer; store = store_of (record_after given answer) clocks held order }
 
+-- rule 51: the tallies that go with that record: the append's, or those given where it refuses the event
 abbrev pub tallies_left : List ℕ → Result Appended Refusal → List ℕ
 tallies_left given (Ok done) = done.tallies
 tallies_left given (Err why) = given

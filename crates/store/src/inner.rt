@@ -12,14 +12,14 @@ use model::{Event, Record, Refusal};
 pub use rules::clocks::{Clocks, is_covered, known_covered, slot_of};
 use rules::follow::Past;
 
-// A record before its first event.
+// A record before its first event. No conversion: built by rule 10.
 pub fn fresh_record(tablets: u8) -> Record
     ensures { result ≡ fresh_record tablets }
 {
     Record { tablets, events: 0 }
 }
 
-// The record of an opening that is refused, and of a text whose head is.
+// rule 51: the record (0, 0), which reading gives where it refuses before a `tablets` line is accepted.
 pub fn no_record() -> Record
     ensures { result ≡ no_record }
 {
@@ -47,6 +47,7 @@ pub struct Appended {
 // An event offered to a store that its caller knows to be sound, with the store's tallies at hand: nothing is tested or
 // counted again. The caller keeps what this asks as its own invariant. A refused event leaves record, buffers and tallies as
 // they were.
+// What is asked is no type: it speaks of buffers that the call writes.
 pub fn append(
     record: Record,
     buffers: &mut Buffers,

@@ -14,7 +14,8 @@ use Rattle.model.specs.Store.{Store, store_of, fresh_record, no_record, full_siz
 use Rattle.model.proofs.Refusals.{or_else_next, number_positive}
 use Rattle.store.specs.Outcomes.{Opened, opened, opening, AppendReady}
 use Rattle.store.proofs.Verdicts.{record_passes}
-use Rattle.store.proofs.Outcomes.{when_zero, when_some}
+use borrow.Author.Tests.{eq-eqb, ne_eqb}
+use Rattle.std.proofs.lemmas.Bool.{cond-true, cond-false, true_from_ne_false, false_from_ne_true}
 use Rattle.lines.specs.Find.{rest_lines}
 use Rattle.loglines.specs.Keys.{number_line, tablets_key}
 use Rattle.loglines.specs.Events.{with_said}
@@ -32,19 +33,11 @@ module _ (clocks held order : List ℕ) where
   one_fits : record_refusal (fresh_record 1) ≡ 0
   one_fits = record_passes (fresh_record 1) refl
 
-  by_size : (b : Bool) (k : ℕ) → k ≡ cond (not b) 2 0 → k ≡ 0 → b ≡ true
-  by_size true k e z = refl
-  by_size false k e z = let no : ⊥ = omega arith in absurd no
-
-  by_short : (b : Bool) (k : ℕ) → k ≡ cond (not b) 2 0 → 1 ≤ k → b ≡ false
-  by_short true k e h = let no : ⊥ = omega arith in absurd no
-  by_short false k e h = refl
-
   pub sizes_fit : store_refusal (store_of (fresh_record 1) clocks held order) ≡ 0 → full_sizes clocks held order ≡ true
-  sizes_fit z = by_size (full_sizes clocks held order) _ (fresh_test 1 one_fits) z
+  sizes_fit z = true_from_ne_false (full_sizes clocks held order) (λ e. omega (arith, z, fresh_test 1 one_fits ∙ ap (λ (b : Bool). cond (not b) 2 0) e))
 
   pub sizes_short : 1 ≤ store_refusal (store_of (fresh_record 1) clocks held order) → full_sizes clocks held order ≡ false
-  sizes_short h = by_short (full_sizes clocks held order) _ (fresh_test 1 one_fits) h
+  sizes_short h = false_from_ne_true (full_sizes clocks held order) (λ e. omega (arith, h, fresh_test 1 one_fits ∙ ap (λ (b : Bool). cond (not b) 2 0) e))
 
   -- as its caller tells the two ways
   tested_zero : (v : Result (Unit {0}) Refusal) → is_err v ≡ false → verdict_number v ≡ 0
@@ -104,18 +97,18 @@ module _ (text clocks held order : List ℕ) where
       begin_refused : 1 ≤ record_refusal (fresh_record n) → beginning text clocks held order ≡ refused (record_refusal (fresh_record n)) 1 nothing
       begin_refused some =
           by_number
-          ∙ ap (λ (r : Record). opened_text (record { refusal = record_refusal (fresh_record n); returned = r }) clocks held order) (when_some (record_refusal (fresh_record n)) (fresh_record n) no_record some)
-          ∙ ap (λ (line : ℕ). refused (record_refusal (fresh_record n)) line nothing) (when_some (record_refusal (fresh_record n)) 0 1 some)
+          ∙ ap (λ (r : Record). opened_text (record { refusal = record_refusal (fresh_record n); returned = r }) clocks held order) (cond-false _ _ _ (ne_eqb (record_refusal (fresh_record n)) 0 (omega arith)))
+          ∙ ap (λ (line : ℕ). refused (record_refusal (fresh_record n)) line nothing) (cond-false _ _ _ (ne_eqb (record_refusal (fresh_record n)) 0 (omega arith)))
 
       begin_fresh : record_refusal (fresh_record n) ≡ 0 → beginning text clocks held order ≡ record { refusal = 0; line = 0; store = store_of (fresh_record n) clocks held order }
       begin_fresh none =
           by_number
-          ∙ ap (λ (r : Record). opened_text (record { refusal = record_refusal (fresh_record n); returned = r }) clocks held order) (when_zero (record_refusal (fresh_record n)) (fresh_record n) no_record none)
+          ∙ ap (λ (r : Record). opened_text (record { refusal = record_refusal (fresh_record n); returned = r }) clocks held order) (cond-true _ _ _ (eq-eqb (record_refusal (fresh_record n)) 0 none))
           ∙ ap {B = ReadOutcome} (λ (k : ℕ). record { refusal = k; line = cond (eqb k 0) 0 1; store = store_of (fresh_record n) clocks held order }) none
 
       pub reading_refused : 1 ≤ record_refusal (fresh_record n) → reading text clocks held order ≡ refused (record_refusal (fresh_record n)) 1 nothing
       unfolding reading
-      reading_refused some = ap (going_on text) (begin_refused some) ∙ when_some (record_refusal (fresh_record n)) _ (refused (record_refusal (fresh_record n)) 1 nothing) some
+      reading_refused some = ap (going_on text) (begin_refused some) ∙ cond-false _ _ _ (ne_eqb (record_refusal (fresh_record n)) 0 (omega arith))
 
       pub reading_goes : record_refusal (fresh_record n) ≡ 0 → reading text clocks held order ≡ read_on (store_of (fresh_record n) clocks held order) 2 (rest_lines text)
       unfolding reading
@@ -149,7 +142,7 @@ module _ (text : List ℕ) where
         tablets = n;
         said = said;
         fits = fits;
-        fresh = ap (λ (o : Opened). o.returned) is ∙ when_zero (record_refusal (fresh_record n)) (fresh_record n) no_record fits;
+        fresh = ap (λ (o : Opened). o.returned) is ∙ cond-true _ _ _ (eq-eqb (record_refusal (fresh_record n)) 0 fits);
       }
 
   pub head_opens : (r : Record) → opened (Ok r) ≡ heading text → HeadOpens text r

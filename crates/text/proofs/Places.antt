@@ -9,20 +9,17 @@ use borrow.Author.Tests.{eq-eqb, eqb-true}
 use lib.Dec.{eqb}
 use lib.ListN.{length, get_or, drop, length-drop}
 use lib.Seq.{get_or-drop}
+use Rattle.std.proofs.lemmas.Bool.{cond_both}
 use Rattle.lines.specs.Find.{find, first_line}
 use Rattle.lines.proofs.Parts.{ended, whole_line, line_inside}
 use Rattle.loglines.specs.Events.{line_bytes}
 use Rattle.text.specs.Steps.{feeds, begins_line, Placed}
 
 -- no more LFs than bytes
-feeds_byte : (b : Bool) (n k : ℕ) → k ≤ n → cond b 1 0 + k ≤ suc n
-feeds_byte true n k h = omega arith
-feeds_byte false n k h = omega arith
-
 feeds_most : (n : ℕ) (text : List ℕ) → feeds n text ≤ n
 feeds_most zero text = omega arith
 feeds_most (suc n) [] = omega arith
-feeds_most (suc n) (b ∷ bs) = feeds_byte (eqb b 10) n (feeds n bs) (feeds_most n bs)
+feeds_most (suc n) (b ∷ bs) = cond_both (eqb b 10) 1 0 (λ k. k + feeds n bs ≤ suc n) (λ e. omega (arith, feeds_most n bs)) (λ e. omega (arith, feeds_most n bs))
 
 -- those of two parts are those of the first and those of the second
 feeds_none : (n : ℕ) → feeds n [] ≡ 0

@@ -17,7 +17,7 @@ use Rattle.model.proofs.Refusals.{number_positive}
 use Rattle.store.specs.declared.inner.Appended.{Appended}
 use Rattle.store.specs.Outcomes.{Outcome, AppendReady, AppendedTo, opened, appended, appending, tallies_left}
 use Rattle.store.proofs.Theorems.{append_ready}
-use Rattle.lines.proofs.Entries.{rest_of}
+use Rattle.std.proofs.lemmas.List.{take_rest}
 use Rattle.lines.specs.Find.{line_length}
 use Rattle.loglines.specs.declared.reader.Reader.{Reader}
 use Rattle.loglines.specs.Keys.{number_line, ends_here, tablets_key, events_key}
@@ -193,7 +193,7 @@ module _ (text : List ℕ) (whole : ReadOutcome) (r : Reader) (t : Step) (clocks
   goes_on q n bytes numbers tablets tallies is moved taken =
       let s : Store = store_of t.record clocks held order in
       let over : q.src.now ≡ text = ap (λ (b : Bor (List ℕ)). b.now) moved.0 ∙ g.over in
-      let ahead = rest_of q.src.now q.at ∙ ap (drop q.at) over in
+      let ahead = take_rest q.src.now q.at ∙ ap (drop q.at) over in
       record {
         over = over;
         here = subst (λ (l : ℕ). Placed text q.at l) (sym moved.2) (subst (λ (k : ℕ). Placed text k (r.line + t.lines)) (sym moved.1) going_to);

@@ -282,24 +282,15 @@ behind_event s text none =
     let w = used_within s.tablets text p.lines p.whole in
     (omega (arith, p.used, w.0), subst (λ (k : ℕ). Placed text k 4) (sym p.used) w.1)
 
-ok-err : {A E : Type 0} (v : A) (d : E) → Ok v ≡ Err d → ⊥
-ok-err v d e = cc
-
-same_Err : {A E : Type 0} (x y : E) → ◌≡◌ {A = Result A E} (Err x) (Err y) → x ≡ y
-same_Err x y e = cc
-
-same_Ok : {A E : Type 0} (x y : A) → ◌≡◌ {A = Result A E} (Ok x) (Ok y) → x ≡ y
-same_Ok x y e = cc
-
 -- what `map_err` was given, where it gives an error
 pub failed_as : {A E D : Type 0} (x : Result A E) (m : Result A D) (K : E → D → Type 0) (d : D) → MatchResult x (λ v. m ≡ Ok v) (λ e. IsErrAnd m (K e)) → m ≡ Err d → (e : E) × (x ≡ Err e) × K e d
-failed_as (Ok v) m K d k is = absurd (ok-err v d (sym k ∙ is))
+failed_as (Ok v) m K d k is = let no : ⊥ = cc in absurd no
 failed_as (Err e) m K d k is =
     let p = err_from_is_err_and m k in
-    (e, refl, subst (K e) (same_Err p.0 d (sym p.1 ∙ is)) p.2)
+    (e, refl, subst (K e) (let same : ◌≡◌ {A = Result _ _} (Err p.0) (Err d) = sym p.1 ∙ is in cc) p.2)
 
 pub passed_as : {A E D : Type 0} (x : Result A E) (m : Result A D) (K : E → D → Type 0) (v : A) → MatchResult x (λ w. m ≡ Ok w) (λ e. IsErrAnd m (K e)) → m ≡ Ok v → x ≡ Ok v
-passed_as (Ok w) m K v k is = ap Ok (same_Ok w v (sym k ∙ is))
+passed_as (Ok w) m K v k is = cc
 passed_as (Err e) m K v k is =
     let p = err_from_is_err_and m k in
-    absurd (ok-err v p.0 (sym is ∙ p.1))
+    let failed : m ≡ Err p.0 = p.1 in let no : ⊥ = cc in absurd no

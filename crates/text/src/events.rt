@@ -57,6 +57,7 @@ pub(crate) struct RefusedEvent {
     pub before: usize,
 }
 
+// What is asked is no type: it speaks of buffers that the call writes.
 fn take_event(
     ahead: &[u8],
     record: Record,
@@ -86,6 +87,7 @@ fn take_event(
 }
 
 // A turn behind the head: the last line, or the three lines of an event.
+// What is asked is no type: it speaks of buffers that the call writes.
 pub(crate) fn event_turn(
     ahead: &[u8],
     record: Record,

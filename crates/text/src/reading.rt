@@ -16,6 +16,7 @@ use store::Buffers;
 #[derive(Clone, Copy)]
 pub struct ReadRefusal {
     pub why: Refusal,
+    // 0 where there is none to name, as `reading` of specs/ gives it.
     pub line: usize,
     pub record: Record,
 }
@@ -29,6 +30,7 @@ pub(crate) fn read_lines(text: &[u8], buffers: &mut Buffers) -> Result<Record, R
 {
     let mut reader = Reader::new(text);
     let mut step = head_turn(text);
+    // A loop: the turn before says whether another follows.
     loop {
         let at = reader.at + step.bytes;
         let line = reader.line + step.lines;

@@ -3,6 +3,7 @@ use model::{Record, Refusal};
 
 // What follows there: an event or the last line, with the tallies that go with the store; nothing, since the text was read;
 // or nothing, since it is refused there.
+// Not a Result over an Option: Ok(None) would have to mean "read", and a refusal moves the reader too.
 #[derive(Clone, Copy)]
 pub(crate) enum Next {
     More([u8; 8]),

@@ -1,10 +1,11 @@
 // The day as the program knows it, kept apart from all that is tried: what its store holds and what its text says follow from it.
-// `vectors` has a day and a store of its own: a slip that only one of them makes is seen.
+// `vectors` has a day and a store of its own: a slip that only one of them makes is seen; see docs/DECISIONS.md,
+// "There are two such programs".
 use model::{Event, Tablet};
 use std::alloc::{AllocError, Global};
 use trials::entries::{Entries, column_of, entry, with_entry};
 
-// The tablet of a column.
+// The tablet of a column. Like `vectors`' for the eight that there are, but of this program's own.
 pub(crate) fn tablet_of(column: usize) -> Tablet {
     Tablet(u8::try_from(column).unwrap_or(u8::MAX).saturating_add(1))
 }

@@ -1,5 +1,6 @@
 // Events from a fixed rule: a tablet's next, which knows what the tablet knew and now and then what another tablet sent. A wrong
 // one has one thing changed, so that it is known beforehand why it is refused.
+// The other program has its own: see docs/DECISIONS.md, "There are two such programs".
 use crate::day::{Day, tablet_of};
 use crate::run::{Draw, Run};
 use model::{Event, Refusal, Tablet};
@@ -21,14 +22,9 @@ pub(crate) fn draw_day(
     Ok(day)
 }
 
-// Some column of the day's.
-fn draw_column(draw: &mut Draw, day: &Day) -> usize {
-    draw.below(usize::from(day.tablets))
-}
-
 // What a message says from some tablet, mostly from its latest event, sometimes from an older one.
 fn draw_message(draw: &mut Draw, day: &Day) -> Entries {
-    let other = draw_column(draw, day);
+    let other = draw.column(day.tablets);
     let latest = day.tally(other);
     if draw.once_in(3) {
         let older = draw.below(usize::from(latest) + 1);
@@ -49,7 +45,7 @@ fn draw_held(draw: &mut Draw) -> u16 {
 
 // The next event of some tablet; about `talk` times of four it has heard of another.
 fn draw_event(draw: &mut Draw, day: &Day, talk: usize) -> Event {
-    let own = draw_column(draw, day);
+    let own = draw.column(day.tablets);
     let before = day.tally(own);
     let mut clock = day.known(own, before);
     if draw.below(4) < talk {
@@ -132,7 +128,7 @@ fn wrong_message(day: &Day, event: Event, other: usize) -> Option<WrongEvent> {
 pub(crate) fn draw_wrong_event(draw: &mut Draw, day: &Day) -> Option<WrongEvent> {
     let event = draw_event(draw, day, 2);
     let own = column_of(event.tablet.0);
-    let other = draw_column(draw, day);
+    let other = draw.column(day.tablets);
     if draw.once_in(4) {
         return Some(wrong_tablet(draw, day, event));
     }

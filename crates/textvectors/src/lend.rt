@@ -4,7 +4,7 @@ use crate::stores::{Buffer, Store};
 use model::{PieceNumber, Refusal};
 use store::{Buffers, Trace};
 
-// Document 01's number of a refusal, 0 for none.
+// Document 01's number of a refusal, 0 for none: no Option, as it is compared with a number that a case of stdin gives.
 pub(crate) fn number_of(refusal: Option<Refusal>) -> usize {
     refusal.map_or(0, |why| usize::from(u8::from(why)))
 }

@@ -18,6 +18,7 @@ pub(crate) enum Kind {
     Fixed,
 }
 
+// The other program has its own: see docs/DECISIONS.md, "There are two such programs".
 #[derive(Drop)]
 pub(crate) struct Notes {
     // How many texts of the input were begun, and how many days drawn.
@@ -94,7 +95,7 @@ impl Notes {
         self.same_number(kind, number_of(want), number_of(got), text)
     }
 
-    // Of all that a reading says.
+    // Of all that a reading says. By field, not by ==: each is a comparison of its own, which the stored output counts.
     pub(crate) fn same_told(
         &mut self,
         kind: Kind,

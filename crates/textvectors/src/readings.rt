@@ -83,7 +83,7 @@ fn faulty(tablets: u8, before: &[u8]) -> Told {
     }
 }
 
-// Bytes that no line of a text has.
+// A choice, no conversion: bytes that no line of a text has.
 fn draw_wrong_letter(draw: &mut Draw) -> u8 {
     match draw.below(6) {
         0 => b'x',

@@ -5,6 +5,7 @@ use std::alloc::Global;
 // The rule that draws: 16807 x mod 2^31 - 1.
 pub(crate) type Draw = trials::Draw<16807>;
 
+// The other program has its own: see docs/DECISIONS.md, "There are two such programs".
 #[derive(Drop)]
 pub(crate) struct Run {
     pub alloc: Global,

@@ -35,7 +35,7 @@ pub(crate) enum Lent {
 }
 
 impl Lent {
-    // How many bytes or numbers at the end of a buffer are not lent.
+    // How many bytes or numbers at the end of a buffer are not lent: a choice, no conversion.
     pub(crate) fn missing(self, buffer: Buffer) -> usize
         ensures { result ≤ 17 }
     {

@@ -32,7 +32,7 @@ impl<const N: usize> Counts<N> {
         }
     }
 
-    // The counter at an index; 0 where there is none.
+    // The counter at an index; 0 where there is none: no Option, as the callers print it.
     pub fn at(&self, index: usize) -> u64
         ensures { result ≡ slice_index_or self.now index 0 }
     {

@@ -25,7 +25,7 @@ impl<const FACTOR: u32> Draw<FACTOR> {
         Draw { state: seed }
     }
 
-    // A number below `bound`, and 0 where there is none.
+    // A number below `bound`, and 0 where there is none: no Option, as the callers count with it.
     pub fn below(&mut self, bound: usize) -> usize
         ensures next { self.new ≡ next_state FACTOR self.old }
         ensures drawn { result ≡ drawn bound self.new }
@@ -44,5 +44,14 @@ impl<const FACTOR: u32> Draw<FACTOR> {
         ensures drawn { IsTrue result ↔ (drawn times self.new ≡ 0) }
     {
         self.below(times) == 0
+    }
+
+    // A column of so many tablets.
+    pub fn column(&mut self, tablets: u8) -> usize
+        ensures next { self.new ≡ next_state FACTOR self.old }
+        ensures drawn { result ≡ drawn tablets self.new }
+        ensures inside { result ≤ tablets - 1 }
+    {
+        self.below(usize::from(tablets))
     }
 }

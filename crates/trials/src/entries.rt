@@ -14,7 +14,7 @@ pub fn column_of(tablet: u8) -> usize
     usize::from(tablet.wrapping_sub(1) % 8)
 }
 
-// The entry of a column; 0 where there is no such column.
+// The entry of a column; 0 where there is no such column: no Option, as the callers count with it.
 pub fn entry(entries: &Entries, column: usize) -> u8
     ensures { result ≡ slice_index_or entries.now column 0 }
 {
@@ -31,7 +31,8 @@ pub fn with_entry(mut entries: Entries, column: usize, value: u8) -> Entries
     entries
 }
 
-// Whether each entry of one is at most the other's.
+// Whether each entry of one is at most the other's. The crate rules has its own, which this must not use: the second lister of
+// `vectors` calls nothing of the library.
 pub fn at_most(low: &Entries, high: &Entries) -> bool
     ensures { IsTrue result ↔ ((j : ℕ) → j < 8 → slice_index low.now j ≤ slice_index high.now j) }
 {

@@ -18,6 +18,7 @@ pub(crate) enum Call {
     Gather(Position, Position),
 }
 
+// What a call says, of all six in one form, so that one function judges each of them.
 #[derive(Clone, Copy, PartialEq, Eq)]
 pub(crate) enum Word {
     Passed,
@@ -69,7 +70,8 @@ pub(crate) fn place_behind(counts: Entries) -> Place {
     }
 }
 
-// What a call said: its word, how many it wrote or counted, a place or a cut, and the position where a gathering stopped.
+// What a call said: its word, how many it wrote or counted, a place or a cut, and the position where a gathering stopped. One
+// form for six calls, so that one function judges each of them.
 #[derive(Clone, Copy)]
 pub(crate) struct Said {
     pub word: Word,
@@ -164,7 +166,7 @@ fn listed(place: Place, answer: Result<Listed, Refusal>) -> Said {
     }
 }
 
-// The call that is asked for.
+// The call that is asked for. A match, no closures: a call is data, which tables of calls are made of.
 pub(crate) fn ask_library(trace: Trace, call: Call, out: &mut [u8]) -> Said {
     match call {
         Call::Check => Said::from(Word::of_test(check(trace))),

@@ -46,7 +46,8 @@ pub(crate) fn compare_cuts(
     Ok(())
 }
 
-// What is said through a lent place, where the place then stands and each byte of the output are as `list` has them.
+// What is said through a lent place, where the place then stands and each byte of the output are as `list` has them. By
+// part, not by ==: each is a comparison of its own, which the stored output counts.
 fn compare_moving(run: &mut Run, want: &Answer, got: &Answer) -> Result<(), AllocError> {
     run.same(Kind::Moving, want.said.word, got.said.word)?;
     run.same(Kind::Moving, want.said.number, got.said.number)?;

@@ -5,6 +5,7 @@ use std::alloc::{AllocError, Global};
 use std::fmt;
 use trials::entries::{Entries, column_of, entry, with_entry};
 
+// The other program has its own: see docs/DECISIONS.md, "There are two such programs".
 #[derive(Drop)]
 pub(crate) struct Day {
     pub tablets: u8,
@@ -12,8 +13,6 @@ pub(crate) struct Day {
     pub events: Vec<Event>,
     // How many events each tablet has.
     pub tallies: Entries,
-    // The position of each event by column and number, 0 for number 0.
-    positions: [[u16; 256]; 8],
 }
 
 impl Day {
@@ -23,7 +22,6 @@ impl Day {
             tablets,
             events: Vec::new(alloc),
             tallies: [0; 8],
-            positions: [[0; 256]; 8],
         }
     }
 
@@ -50,14 +48,6 @@ impl Day {
         let number = self.tally(column).saturating_add(1);
         self.events.push(event)?;
         self.tallies = with_entry(self.tallies, column, number);
-        let last = self.last();
-        if let Some(position) = self
-            .positions
-            .get_mut(column)
-            .and_then(|row| row.get_mut(usize::from(number)))
-        {
-            *position = last;
-        }
         Ok(())
     }
 
@@ -69,8 +59,11 @@ impl Day {
 
     // A tablet's event by its number. Number 0 has none.
     pub(crate) fn event(&self, column: usize, number: u8) -> Option<Event> {
-        let position = self.positions.get(column)?.get(usize::from(number))?;
-        self.at(*position)
+        self.events
+            .iter()
+            .find(|event| column_of(event.tablet.0) == column
+                && entry(&event.clock, column) == number)
+            .copied()
     }
 
     // The clock of a tablet's event; event 0 knows nothing.

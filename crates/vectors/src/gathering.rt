@@ -66,6 +66,7 @@ fn reach_all(
     Ok(reach)
 }
 
+// By part, not by ==: each is a comparison of its own, which the stored output counts.
 fn judge_gathering(run: &mut Run, want: Reach, got: &Answer) -> Result<(), AllocError> {
     let said = got.said;
     let word = Word::of_rest(want.seen < want.all);

@@ -1,15 +1,13 @@
 // Traces as tablets would log them, from a fixed rule: each tablet goes by its own clock, an event is its own or takes a
 // message from another tablet, of that tablet's latest event or an older one. Damaged events have one thing wrong.
+// The other program has its own: see docs/DECISIONS.md, "There are two such programs".
 use crate::day::Day;
 use crate::run::Draw;
 use model::{Event, Tablet};
 use trials::entries::{Entries, column_of, entry, largest, with_entry};
 
-fn draw_column(draw: &mut Draw, day: &Day) -> usize {
-    draw.below(usize::from(day.tablets))
-}
-
-// The event of a tablet that a message came from: mostly its latest, sometimes an older one, 0 where it has none.
+// The event of a tablet that a message came from: mostly its latest, sometimes an older one, 0 where it has none: no Option,
+// as event 0 knows nothing (Day::clock).
 fn draw_sent(draw: &mut Draw, latest: u8) -> u8 {
     if draw.once_in(3) {
         return draw.below(usize::from(latest) + 1) as u8;
@@ -32,14 +30,14 @@ fn draw_known(draw: &mut Draw, day: &Day, own: usize, talk: usize) -> Entries {
     if talk <= draw.below(4) {
         return before;
     }
-    let other = draw_column(draw, day);
+    let other = draw.column(day.tablets);
     let sent = draw_sent(draw, day.tally(other));
     largest(&before, &day.clock(other, sent))
 }
 
 // The next event of some tablet.
 pub(crate) fn draw_event(draw: &mut Draw, day: &Day, talk: usize) -> Event {
-    let own = draw_column(draw, day);
+    let own = draw.column(day.tablets);
     let known = draw_known(draw, day, own, talk);
     let number = day.tally(own).saturating_add(1);
     Event {
@@ -62,6 +60,7 @@ fn wrong_tablet(draw: &mut Draw, day: &Day) -> Tablet {
     }
 }
 
+// These two are like each other in form alone: each is another thing wrong.
 fn raised(clock: Entries, column: usize) -> Entries {
     with_entry(clock, column, entry(&clock, column).wrapping_add(1))
 }
@@ -77,8 +76,8 @@ fn wrong_clock(draw: &mut Draw, day: &Day, event: Event) -> Entries {
     match draw.below(6) {
         0 => raised(clock, own),
         1 => lowered(clock, own),
-        2 => raised(clock, draw_column(draw, day)),
-        3 => lowered(clock, draw_column(draw, day)),
+        2 => raised(clock, draw.column(day.tablets)),
+        3 => lowered(clock, draw.column(day.tablets)),
         4 => with_entry(clock, draw.below(8), draw.below(256) as u8),
         _ => {
             let column = draw.below(8);

@@ -90,7 +90,7 @@ pub(crate) struct Lent {
     pub record: Record,
     pub sizes: Sizes,
     cells: Cells,
-    // A byte is not as the day has it.
+    // A byte is not as the day has it. A flag: no value goes with it.
     changed: bool,
 }
 

@@ -8,6 +8,7 @@ use cuts::{Moved, list_moving};
 use model::{Place, Position, Refusal};
 use store::Trace;
 
+// It also gives the place back, so it is no conversion.
 pub(crate) fn list_by_moving(
     trace: Trace,
     position: Position,

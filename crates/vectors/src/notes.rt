@@ -1,5 +1,6 @@
 // What was compared: a counter for each kind of comparison and for each refusal number, so that a run that compares nothing
 // shows. A difference is noted with its trace.
+use model::Refusal;
 use std::alloc::{AllocError, Global};
 use std::fmt;
 use trials::Counts;
@@ -59,6 +60,7 @@ impl fmt::Display for Kind {
     }
 }
 
+// The other program has its own: see docs/DECISIONS.md, "There are two such programs".
 #[derive(Drop)]
 pub(crate) struct Notes {
     traces: u64,
@@ -99,8 +101,8 @@ impl Notes {
         self.compared.add(kind as usize);
     }
 
-    pub(crate) fn add_refused(&mut self, number: u8) {
-        self.refused.add(usize::from(number));
+    pub(crate) fn add_refused(&mut self, why: Refusal) {
+        self.refused.add(usize::from(u8::from(why)));
     }
 
     pub(crate) fn add_difference(

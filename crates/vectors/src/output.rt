@@ -5,6 +5,7 @@ use trials::entries::Entries;
 const STAYS: u8 = 238;
 
 // The longest output that is lent takes 64 cuts.
+// The length is how much is lent; no slice, as the bytes behind it are looked at too.
 #[derive(Clone, Copy)]
 pub(crate) struct Output {
     cuts: [Entries; 65],

@@ -1,4 +1,5 @@
-// Parts of slices that end where the slice does, so that no caller has to know how long it is.
+// Parts of slices that end where the slice does, so that no caller has to know how long it is. They are no
+// twins: one gives the front to read, one to write, one the rest.
 
 pub(crate) fn front<T>(items: &[T], count: usize) -> &[T] {
     &items[..count.min(items.len())]

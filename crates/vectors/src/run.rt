@@ -9,6 +9,7 @@ use std::fmt;
 // 48271 x mod 2^31 - 1.
 pub(crate) type Draw = trials::Draw<48271>;
 
+// The other program has its own: see docs/DECISIONS.md, "There are two such programs".
 #[derive(Drop)]
 pub(crate) struct Run {
     pub alloc: Global,
@@ -44,6 +45,7 @@ impl Run {
         Ok(())
     }
 
+    // By field here and below, not by ==: each is a comparison of its own, which the stored output counts.
     pub(crate) fn same_record(
         &mut self,
         kind: Kind,
@@ -70,7 +72,7 @@ impl Run {
         if let Word::Refused(why) = want
             && want == got
         {
-            self.notes.add_refused(u8::from(why));
+            self.notes.add_refused(why);
         }
         Ok(())
     }

@@ -14,7 +14,7 @@ use std::alloc::AllocError;
 use std::mem;
 use trials::entries::Entries;
 
-// The outputs that are lent: one cut, one and a rest, two, three, and many.
+// A choice, no conversion. The outputs that are lent: one cut, one and a rest, two, three, and many.
 fn draw_length(draw: &mut Draw) -> usize {
     match draw.below(5) {
         0 => 8,

@@ -6,7 +6,7 @@ use Rattle.model.specs.Lists.{zeros, keep}
 use Rattle.model.specs.Store.{Store}
 use Rattle.model.specs.Questions.{meets, first_of}
 
--- the cut that was found, and zeros where there is none
+-- rule 36: the cut that was found, and zeros where there is none
 abbrev pub cut_found : Option Cut → List ℕ
 cut_found None = zeros
 cut_found (Some cut) = cut.counts

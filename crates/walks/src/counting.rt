@@ -12,6 +12,7 @@ pub fn count_span(walk: &Walk) -> Option<u64>
 {
     let mut counts = walk.low.counts;
     let mut count: u64 = 1;
+    // A while: next_cut both tells and moves.
     while walk.next_cut(&mut counts) {
         count = count.checked_add(1)?;
     }

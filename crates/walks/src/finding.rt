@@ -13,6 +13,7 @@ pub fn first_meeting(walk: &Walk, holdings: Holdings, question: Question) -> Opt
     ensures { ForHeld holdings.entry.held.now (λ s. AskedOf s question (cuts_of walk.now) (is_some result) (cut_found result)) }
 {
     let mut counts = walk.low.counts;
+    // A loop: it has two exits.
     loop {
         if cut_meets(holdings, question, &counts) {
             return Some(Cut { counts });

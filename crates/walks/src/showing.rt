@@ -8,6 +8,7 @@ use steps::walk::Walk;
 use store::inner::write_eight;
 
 // What was written: how many cuts, the place behind the last of them, and whether more stand behind it.
+// A flag for "more": what is written and the place are there in both cases.
 #[derive(Clone, Copy)]
 pub struct Listed {
     pub written: usize,
@@ -23,6 +24,7 @@ pub fn show(walk: &Walk, first: Cut, out: &mut [u8]) -> Listed
     let room = out.len() / 8;
     let mut counts = first.counts;
     let mut place = behind(counts);
+    // A for over the index: it leaves early with what was written.
     for shown in 0..room {
         write_eight(out, 8 * shown, counts);
         place = behind(counts);
@@ -42,6 +44,7 @@ pub fn show(walk: &Walk, first: Cut, out: &mut [u8]) -> Listed
 }
 
 // The place behind a cut.
+// No conversion: built by rule 30.
 fn behind(counts: [u8; 8]) -> Place
     ensures { result ≡ place_behind counts }
 {

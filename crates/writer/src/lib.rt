@@ -1,4 +1,4 @@
-// A store written as text, piece by piece: each piece is put together by value, and copied where the output has room for it.
+// A store written as text, piece by piece: each piece is put together first, and copied where the output has room for it.
 #![tactic(auto)]
 
 mod writing;

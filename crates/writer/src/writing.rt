@@ -1,5 +1,5 @@
 // One piece of the text of a store: the `tablets` line, the three lines of an event, or the `events` line. It is put together
-// by value first, so that an output that is too short for it is left as it was.
+// first, so that an output that is too short for it is left as it was.
 ghost use Rattle.std.specs.Prelude.{◌≡◌, ◌-◌, ◌≤◌, length};
 ghost use Rattle.model.specs.Numbers.{column};
 ghost use Rattle.model.specs.Follow.{tally, event_at};
@@ -14,6 +14,7 @@ use rules::clocks::{Clocks, slot_of};
 use store::Trace;
 
 // How many of the first `count` order bytes name a tablet.
+// The number is a position, not the list's length.
 fn count_before(order: &[u8], count: usize, tablet: Tablet) -> usize
     requires { (count ≤ length order.now) × (1 ≤ tablet.0) }
     ensures { result ≡ tally order.now count (column tablet) }
@@ -33,6 +34,7 @@ fn number_at(order: &[u8], position: Position) -> EventNumber
 }
 
 // The three lines of an event, of its clock the entries that are written.
+// Not by fmt::Write: see Piece.
 fn three_lines(tablet: Tablet, entries: &[u8], held: u16) -> Piece
     requires { (1 ≤ length entries.now) × (length entries.now ≤ 8) }
     ensures { result ≡ three_lines tablet.0 entries.now held }
@@ -61,6 +63,7 @@ fn event_piece(trace: Trace, position: Position) -> Piece
     three_lines(tablet, &clock[..n], held)
 }
 
+// Asked and no type: Sound has no held values, and this reads them.
 #[tactic(auto, using(crate::proofs::Pieces::piece_first, crate::proofs::Pieces::piece_event, crate::proofs::Pieces::piece_last, crate::proofs::Pieces::tablets_line, crate::proofs::Pieces::events_line))]
 pub(crate) fn piece_of(trace: Trace, piece: PieceNumber) -> Piece
     requires { store_refusal (store_in trace) ≡ 0 }

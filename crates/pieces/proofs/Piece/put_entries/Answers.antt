@@ -5,8 +5,8 @@ use Rattle.pieces.proofs.Piece.put_entries.Goals as goal
 
 pub put_byte-requires : goal.put_byte-requires
 put_byte-requires c =
-    omega (arith, c.requires.fits, length-append {A = ℕ}, ap length c.loop-j.invariant, next_entry c.args.values.now c.loop-j.j c.loop-j-test.true)
+    omega (arith, c.requires.fits, length-append {A = ℕ}, ap length c.loop-value.invariant, next_entry _ c.loop-value.value-index c.loop-value-test.true)
 
-pub put_number-requires-in-loop-j : goal.put_number-requires-in-loop-j
-put_number-requires-in-loop-j c =
-    omega (arith, c.requires.fits, length-append {A = ℕ}, ap length c.loop-j.invariant, ap length c.put_byte.ensures, next_entry c.args.values.now c.loop-j.j c.loop-j-test.true)
+pub put_number-requires-in-loop-value : goal.put_number-requires-in-loop-value
+put_number-requires-in-loop-value c =
+    omega (arith, c.requires.fits, length-append {A = ℕ}, ap length c.loop-value.invariant, ap length c.put_byte.ensures, next_entry _ c.loop-value.value-index c.loop-value-test.true)

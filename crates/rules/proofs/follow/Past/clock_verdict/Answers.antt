@@ -3,7 +3,7 @@ use mathlib.Core.Path.{◌≡◌, sym, ◌∙◌}
 use mathlib.Core.Bool.{true}
 use Rattle.model.specs.Numbers.{column}
 use Rattle.model.specs.Follow.{others_within}
-use Rattle.model.proofs.Tests.{from_true}
+use Rattle.std.proofs.lemmas.Float.{T_from_true}
 use Rattle.model.proofs.Follow.{last_known_bounded}
 use Rattle.rules.proofs.follow.Past.clock_verdict.Goals as goal
 
@@ -16,6 +16,6 @@ covers_known-requires c =
       p.1,
       record {
         long = p.0;
-        stored = λ j h. last_known_bounded a.self.tablets a.self.tallies own a.clock.now (from_true (others_within a.self.tablets a.self.tallies own a.clock.now) fits) a.self.bounded j h;
+        stored = λ j h. last_known_bounded a.self.tablets a.self.tallies own a.clock.now (T_from_true (others_within a.self.tablets a.self.tallies own a.clock.now) fits) a.self.bounded j h;
       },
     )

@@ -5,7 +5,7 @@ use Prim.Native.Nat.{◌-◌}
 use native.Mathlib.Omega.{arith}
 use Rattle.model.specs.Clocks.{clock_at}
 use Rattle.model.specs.Step.{can_raise, raised, raise_below}
-use Rattle.model.proofs.Columns.{column_of_next}
+use native.Mathlib.Nat.{add-sub_cancel}
 use Rattle.steps.specs.Walk.{stepped, next_after}
 use Rattle.steps.proofs.Below.{below_passed, below_found, step_from}
 use Rattle.steps.proofs.walk.Walk.next_cut.Goals.{After-can_raise}
@@ -16,14 +16,14 @@ tested : (c : After-can_raise) → can_raise (clock_at c.args.self.now.clocks.by
 tested c =
     sym
     (c.can_raise.ensures
-    ∙ ap₂ (can_raise (clock_at c.args.self.now.clocks.bytes.now) c.args.self.now.high.counts) c.loop-i.invariant.0 (column_of_next (c.loop-i.i - 1)))
+    ∙ ap₂ (can_raise (clock_at c.args.self.now.clocks.bytes.now) c.args.self.now.high.counts) c.loop-i.invariant.0 (add-sub_cancel (c.loop-i.i - 1) 1))
 
 pub returns-then-can_raise : goal.returns-then-can_raise
 returns-then-can_raise c =
     let w = c.args.self.now in
     let clk = clock_at w.clocks.bytes.now in
     let G = c.args.counts.now in
-    ap (stepped true) (c.raise.ensures ∙ ap₂ (raised clk w.low.counts) c.loop-i.invariant.0 (column_of_next (c.loop-i.i - 1)))
+    ap (stepped true) (c.raise.ensures ∙ ap₂ (raised clk w.low.counts) c.loop-i.invariant.0 (add-sub_cancel (c.loop-i.i - 1) 1))
     ∙ ap (next_after G)
     (sym
     (step_from clk w.low.counts w.high.counts G w.tablets w.span.tablets w.span.above ∙ c.loop-i.invariant.1
