@@ -4,6 +4,7 @@
 
 ghost use Rattle.std.specs.Prelude.{◌≡◌, ◌+◌, ◌++◌, ◌*◌, ◌≤◌, length, is_some, IfSome};
 ghost use Rattle.model.specs.Lists.{at};
+ghost use Rattle.pieces.specs.Pieces.{grown};
 ghost use Rattle.pieces.specs.Lines.{list_line, pair_line};
 ghost use Rattle.answerlines.specs.Printing.{interval_key, interval_lines, witness_key, witness_line, head_lines, tail_lines, answer_lines};
 ghost use Rattle.answerlines.specs.Outputs.{room, witness_entries, Writable, LinesAt};
@@ -59,9 +60,9 @@ fn add_intervals(counts: &[u64], out: &mut [u8]) -> usize
 
 // `witness` with a cut's entries. Their bounds are asked and are no type: only three private functions of this file have them.
 fn put_cut(line: &mut Piece, entries: &[u8])
-    requires { (1 ≤ length entries.now) × (length entries.now ≤ 8) × (length line.old ≤ 56) }
-    ensures put { line.new ≡ line.old ++ list_line witness_key entries.now }
-    ensures short { length line.new ≤ length line.old + 40 }
+    requires { (1 ≤ length entries.now) × (length entries.now ≤ 8) × (length line.old.put ≤ 56) }
+    ensures put { line.new ≡ grown line.old (list_line witness_key entries.now) }
+    ensures short { length line.new.put ≤ length line.old.put + 40 }
 {
     line.put_list(&WITNESS, entries);
 }
@@ -69,9 +70,9 @@ fn put_cut(line: &mut Piece, entries: &[u8])
 // `witness` with the first n entries of a cut that has eight or more, or with `none`.
 #[tactic(auto, unfolding(crate::specs::Printing::witness_line))]
 fn put_witness(line: &mut Piece, n: usize, witness: Option<&[u8]>)
-    requires { (1 ≤ n) × (n ≤ 8) × IfSome witness (λ cut. 8 ≤ length cut.now) × (length line.old ≤ 56) }
-    ensures put { line.new ≡ line.old ++ witness_line n (is_some witness.entry) (witness_entries witness.entry) }
-    ensures short { length line.new ≤ length line.old + 40 }
+    requires { (1 ≤ n) × (n ≤ 8) × IfSome witness (λ cut. 8 ≤ length cut.now) × (length line.old.put ≤ 56) }
+    ensures put { line.new ≡ grown line.old (witness_line n (is_some witness.entry) (witness_entries witness.entry)) }
+    ensures short { length line.new.put ≤ length line.old.put + 40 }
 {
     match witness {
         Some(cut) => put_cut(line, &cut[..n]),

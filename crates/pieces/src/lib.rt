@@ -2,11 +2,11 @@
 // room for them. Each method puts more bytes behind those that a piece has; the caller shows that they fit.
 #![tactic(auto)]
 
-ghost use Rattle.std.specs.Prelude.{◌≡◌, [], ◌∷◌, ◌++◌, ◌+◌, ◌≤◌, ◌<◌, length};
+ghost use Rattle.std.specs.Prelude.{◌≡◌, [], ◌∷◌, ◌+◌, ◌≤◌, ◌<◌, length};
 ghost use Rattle.std.proofs.lemmas.List.Edits.{sets};
 ghost use Rattle.lines.specs.Numbers.{decimal};
 ghost use Rattle.lines.specs.Lists.{comma_list};
-ghost use Rattle.pieces.specs.Pieces.{piece_room};
+ghost use Rattle.pieces.specs.Pieces.{piece_room, empty_piece, grown};
 ghost use Rattle.pieces.specs.Lines.{key_line, list_line, pair_line};
 
 use std::marker::Model;
@@ -17,27 +17,34 @@ pub const ROOM: usize = 96;
 // Not the kit's `ArrayVec`: it would stand inside such a struct all the same, since lines and numbers are put by methods, and
 // no heap may be used. And no `fmt::Write`, whose `write_str` may not ask for room, so that each line would have an error that
 // never comes.
-#[derive(Drop)]
+#[derive(Clone, Copy)]
 pub struct Piece {
-    length: usize,
-    bytes: [u8; ROOM],
+    pub length: usize,
+    pub bytes: [u8; ROOM],
 }
 
-// Clauses see the bytes that were put so far, whatever lies behind them.
+// Clauses see the bytes that were put so far, and apart from them what lies behind.
 impl Model for Piece {
-    ghost use Rattle.std.specs.Prelude.{ℕ, List};
+    ghost use Rattle.pieces.specs.Pieces.{Bytes};
 
-    ghost Value = { List ℕ };
+    ghost Value = { Bytes };
 
-    ghost use Rattle.pieces.specs.Filling.{put_so_far, Filled};
+    ghost use Rattle.pieces.specs.Filling.{put_so_far, laid_out, Filled, same_length, same_bytes};
 
     ghost view = { put_so_far };
 
     ghost invariant = { Filled };
+
+    ghost inverse = { laid_out };
+
+    ghost inverse_ok = { λ p filled i. record {
+      length = same_length p filled i;
+      bytes = same_bytes p i;
+    } };
 }
 
 pub fn empty_piece() -> Piece
-    ensures { result ≡ [] }
+    ensures { result ≡ empty_piece }
 {
     Piece {
         length: 0,
@@ -47,15 +54,15 @@ pub fn empty_piece() -> Piece
 
 impl Piece {
     pub fn len(&self) -> usize
-        ensures count { result ≡ length self.now }
+        ensures count { result ≡ length self.now.put }
         ensures within { result ≤ piece_room }
     {
         self.length // not `bytes.len()`, which is `ROOM`
     }
 
     pub fn put_bytes(&mut self, text: &[u8])
-        requires { length self.old + length text.now ≤ piece_room }
-        ensures { self.new ≡ self.old ++ text.now }
+        requires { length self.old.put + length text.now ≤ piece_room }
+        ensures { self.new ≡ grown self.old text.now }
     {
         let end = self.length + text.len();
         self.bytes[self.length..end].copy_from_slice(text);
@@ -63,8 +70,8 @@ impl Piece {
     }
 
     pub fn put_byte(&mut self, byte: u8)
-        requires { length self.old < piece_room }
-        ensures { self.new ≡ self.old ++ byte ∷ [] }
+        requires { length self.old.put < piece_room }
+        ensures { self.new ≡ grown self.old (byte ∷ []) }
     {
         self.put_bytes(&[byte]);
     }
@@ -72,8 +79,8 @@ impl Piece {
     // The digits of a tenth of the number, if it has more than one, and its last digit.
     #[tactic(auto, using(lines::proofs::Decimals::decimal_digit, lines::proofs::Decimals::tens_length))]
     pub fn put_number(&mut self, n: u64)
-        requires { length self.old + length (decimal n) ≤ piece_room }
-        ensures { self.new ≡ self.old ++ decimal n }
+        requires { length self.old.put + length (decimal n) ≤ piece_room }
+        ensures { self.new ≡ grown self.old (decimal n) }
     {
         if n < 10 {
             self.put_byte(b'0' + n as u8);
@@ -84,10 +91,11 @@ impl Piece {
     }
 
     // Values parted by commas.
+    #[tactic(auto, using(crate::proofs::Growing::grown_grown, crate::proofs::Growing::grown_none))]
     fn put_entries(&mut self, values: &[u8])
         requires some { 1 ≤ length values.now }
-        requires fits { length self.old + length (comma_list values.now) ≤ piece_room }
-        ensures { self.new ≡ self.old ++ comma_list values.now }
+        requires fits { length self.old.put + length (comma_list values.now) ≤ piece_room }
+        ensures { self.new ≡ grown self.old (comma_list values.now) }
     {
         self.put_number(values[0] as u64);
         for value in &values[1..] {
@@ -98,10 +106,10 @@ impl Piece {
 
     // A line with a number behind its key. It and the two below are three functions: with a closure for the middle the contract
     // would have to say what the call put, and that is longer than three lines.
-    #[tactic(auto, using(crate::proofs::Lengths::key_line_length), unfolding(crate::specs::Lines::key_line))]
+    #[tactic(auto, using(crate::proofs::Lengths::key_line_length, crate::proofs::Growing::grown_grown), unfolding(crate::specs::Lines::key_line))]
     pub fn put_line(&mut self, key: &[u8], n: u64)
-        requires { length self.old + length (key_line key.now n) ≤ piece_room }
-        ensures { self.new ≡ self.old ++ key_line key.now n }
+        requires { length self.old.put + length (key_line key.now n) ≤ piece_room }
+        ensures { self.new ≡ grown self.old (key_line key.now n) }
     {
         self.put_bytes(key);
         self.put_number(n);
@@ -109,11 +117,11 @@ impl Piece {
     }
 
     // A line with values behind its key.
-    #[tactic(auto, using(crate::proofs::Lengths::list_line_length), unfolding(crate::specs::Lines::list_line))]
+    #[tactic(auto, using(crate::proofs::Lengths::list_line_length, crate::proofs::Growing::grown_grown), unfolding(crate::specs::Lines::list_line))]
     pub fn put_list(&mut self, key: &[u8], values: &[u8])
         requires some { 1 ≤ length values.now }
-        requires fits { length self.old + length (list_line key.now values.now) ≤ piece_room }
-        ensures { self.new ≡ self.old ++ list_line key.now values.now }
+        requires fits { length self.old.put + length (list_line key.now values.now) ≤ piece_room }
+        ensures { self.new ≡ grown self.old (list_line key.now values.now) }
     {
         self.put_bytes(key);
         self.put_entries(values);
@@ -121,10 +129,10 @@ impl Piece {
     }
 
     // A line with two numbers behind its key.
-    #[tactic(auto, using(crate::proofs::Lengths::pair_line_length), unfolding(crate::specs::Lines::pair_line))]
+    #[tactic(auto, using(crate::proofs::Lengths::pair_line_length, crate::proofs::Growing::grown_grown), unfolding(crate::specs::Lines::pair_line))]
     pub fn put_pair(&mut self, key: &[u8], a: u64, b: u64)
-        requires { length self.old + length (pair_line key.now a b) ≤ piece_room }
-        ensures { self.new ≡ self.old ++ pair_line key.now a b }
+        requires { length self.old.put + length (pair_line key.now a b) ≤ piece_room }
+        ensures { self.new ≡ grown self.old (pair_line key.now a b) }
     {
         self.put_bytes(key);
         self.put_number(a);
@@ -135,8 +143,8 @@ impl Piece {
 
     // The piece's bytes at the front of an output that has room for them; what lies behind stays.
     pub fn copy_out(&self, out: &mut [u8])
-        requires { length self.now ≤ length out.old }
-        ensures { out.new ≡ sets out.old 0 self.now }
+        requires { length self.now.put ≤ length out.old }
+        ensures { out.new ≡ sets out.old 0 self.now.put }
     {
         out[..self.length].copy_from_slice(&self.bytes[..self.length]);
     }

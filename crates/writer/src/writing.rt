@@ -5,6 +5,7 @@ ghost use Rattle.model.specs.Numbers.{column};
 ghost use Rattle.model.specs.Follow.{tally, event_at};
 ghost use Rattle.model.specs.Store.{store_refusal};
 ghost use Rattle.store.specs.Outcomes.{store_in};
+ghost use Rattle.pieces.specs.Pieces.{empty_piece, grown};
 ghost use Rattle.writer.specs.Writing.{three_lines, event_text, piece_text, Placed, Writable};
 
 use loglines::keys::{CLOCK, EVENTS, HELD, TABLET, TABLETS};
@@ -35,9 +36,10 @@ fn number_at(order: &[u8], position: Position) -> EventNumber
 
 // The three lines of an event, of its clock the entries that are written.
 // Not by fmt::Write: see Piece.
+#[tactic(auto, using(pieces::proofs::Growing::grown_grown))]
 fn three_lines(tablet: Tablet, entries: &[u8], held: u16) -> Piece
     requires { (1 ≤ length entries.now) × (length entries.now ≤ 8) }
-    ensures { result ≡ three_lines tablet.0 entries.now held }
+    ensures { result ≡ grown empty_piece (three_lines tablet.0 entries.now held) }
 {
     let mut lines = empty_piece();
     lines.put_line(&TABLET, tablet.0 as u64);
@@ -50,7 +52,7 @@ fn three_lines(tablet: Tablet, entries: &[u8], held: u16) -> Piece
 #[tactic(auto, unfolding(model::specs::Numbers::slot))]
 fn event_piece(trace: Trace, position: Position) -> Piece
     requires { (1 ≤ position.0) × Writable (store_in trace) (position.0 - 1) }
-    ensures { result ≡ event_text (store_in trace.entry) (position.0 - 1) }
+    ensures { result ≡ grown empty_piece (event_text (store_in trace.entry) (position.0 - 1)) }
 {
     let tablet = Tablet(trace.order[(position.0 - 1) as usize]);
     let number = number_at(trace.order, position);
@@ -67,7 +69,7 @@ fn event_piece(trace: Trace, position: Position) -> Piece
 #[tactic(auto, using(crate::proofs::Pieces::piece_first, crate::proofs::Pieces::piece_event, crate::proofs::Pieces::piece_last, crate::proofs::Pieces::tablets_line, crate::proofs::Pieces::events_line))]
 pub(crate) fn piece_of(trace: Trace, piece: PieceNumber) -> Piece
     requires { store_refusal (store_in trace) ≡ 0 }
-    ensures { result ≡ piece_text (store_in trace.entry) piece.0 }
+    ensures { result ≡ grown empty_piece (piece_text (store_in trace.entry) piece.0) }
 {
     let mut line = empty_piece();
     if piece.0 == 0 {

@@ -1,6 +1,7 @@
 -- `put_cut`: eight entries of at most three digits.
-use Rattle.std.proofs.Common.{length, ap, arith, length-append}
+use Rattle.std.proofs.Common.{arith, length-append}
 use Rattle.pieces.specs.Lines.{list_line}
+use Rattle.pieces.proofs.Growing.{put_long}
 use Rattle.answerlines.specs.Printing.{witness_key}
 use Rattle.answerlines.proofs.Lines.{witness_most}
 use Rattle.answerlines.proofs.put_cut.Goals as goal
@@ -11,4 +12,4 @@ put_list-requires-clause-fits c =
 
 pub returns-clause-short : goal.returns-clause-short
 returns-clause-short c =
-    omega (arith, ap length c.put_list.ensures, length-append c.args.line.now (list_line witness_key c.args.entries.now), witness_most c.args.entries.now c.requires.0 c.requires.1 (λ i. omega (arith, c.type_inv.entries i)))
+    omega (arith, put_long c.put_list.ensures, length-append c.args.line.now.put (list_line witness_key c.args.entries.now), witness_most c.args.entries.now c.requires.0 c.requires.1 (λ i. omega (arith, c.type_inv.entries i)))
