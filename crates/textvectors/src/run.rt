@@ -14,11 +14,11 @@ pub(crate) struct Run {
 }
 
 impl Run {
-    pub(crate) fn new(alloc: Global, seed: u64) -> Run {
+    pub(crate) fn new(rt: HostRuntime, seed: u64) -> Run {
         Run {
-            alloc,
+            alloc: rt.alloc(),
             draw: Draw::new(seed),
-            notes: Notes::new(alloc),
+            notes: Notes::new(rt),
         }
     }
 }

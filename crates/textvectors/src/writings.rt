@@ -6,7 +6,6 @@ use crate::run::Run;
 use crate::stores::{Buffer, Lent, Store, slot_of};
 use crate::trace::Trace;
 use model::{Record, Refusal};
-use std::io;
 use trials::entries::{column_of, with_entry};
 
 const OUTPUT_SIZE: usize = 256;
@@ -32,72 +31,54 @@ fn write_piece(store: &Store, piece: u16, length: usize) -> Written {
 }
 
 // What stands behind the bytes written, up to the end of the program's own buffer, is as it was.
-fn compare_rest(
-    notes: &mut Notes,
-    written: &Written,
-    length: usize,
-    text: &[u8],
-) -> io::Result<()> {
+fn compare_rest(notes: &mut Notes, written: &Written, length: usize, text: &[u8]) {
     let touched = written
         .out
         .iter()
         .skip(length)
         .filter(|byte| **byte != STAYS)
         .count();
-    notes.same(Kind::Rests, 0, touched, text)
+    notes.same(Kind::Rests, 0, touched, text);
 }
 
 // A call that is to be refused: nothing is written.
-fn compare_refused(
-    notes: &mut Notes,
-    kind: Kind,
-    why: Refusal,
-    written: &Written,
-    text: &[u8],
-) -> io::Result<()> {
-    notes.same_refusal(kind, Some(why), written.answer.err(), text)?;
-    notes.same(kind, 0, written.answer.unwrap_or(0), text)?;
-    compare_rest(notes, written, 0, text)
+fn compare_refused(notes: &mut Notes, kind: Kind, why: Refusal, written: &Written, text: &[u8]) {
+    notes.same_refusal(kind, Some(why), written.answer.err(), text);
+    notes.same(kind, 0, written.answer.unwrap_or(0), text);
+    compare_rest(notes, written, 0, text);
 }
 
 // One piece by the library, into an output one byte too short and into one of five bytes more, against the program's.
-fn compare_piece(
-    notes: &mut Notes,
-    store: &Store,
-    piece: u16,
-    want: &[u8],
-    text: &[u8],
-) -> io::Result<()> {
+fn compare_piece(notes: &mut Notes, store: &Store, piece: u16, want: &[u8], text: &[u8]) {
     let length = want.len();
     let short = write_piece(store, piece, length.saturating_sub(1));
-    compare_refused(notes, Kind::Pieces, Refusal::ShortOutput, &short, text)?;
+    compare_refused(notes, Kind::Pieces, Refusal::ShortOutput, &short, text);
     let written = write_piece(store, piece, length.saturating_add(5));
-    notes.same_refusal(Kind::Pieces, None, written.answer.err(), text)?;
-    notes.same(Kind::Pieces, length, written.answer.unwrap_or(0), text)?;
+    notes.same_refusal(Kind::Pieces, None, written.answer.err(), text);
+    notes.same(Kind::Pieces, length, written.answer.unwrap_or(0), text);
     for (want, got) in want.iter().zip(&written.out) {
-        notes.same(Kind::Pieces, usize::from(*want), usize::from(*got), text)?;
+        notes.same(Kind::Pieces, usize::from(*want), usize::from(*got), text);
     }
-    compare_rest(notes, &written, length, text)
+    compare_rest(notes, &written, length, text);
 }
 
 // Every piece, by both writers.
-pub(crate) fn compare_pieces(notes: &mut Notes, trace: &Trace) -> io::Result<()> {
+pub(crate) fn compare_pieces(notes: &mut Notes, trace: &Trace) {
     let store = Store::of(trace.day.tablets, &trace.day.events);
     for (number, piece) in (0..).zip(&trace.pieces) {
-        compare_piece(notes, &store, number, piece.as_bytes(), trace.bytes())?;
+        compare_piece(notes, &store, number, piece.as_bytes(), trace.bytes());
     }
-    Ok(())
 }
 
 // A piece that no day has, into an output that takes none: refused for the store where the store is refused.
-fn refuse_any(notes: &mut Notes, store: &Store, why: Refusal, text: &[u8]) -> io::Result<()> {
+fn refuse_any(notes: &mut Notes, store: &Store, why: Refusal, text: &[u8]) {
     let written = write_piece(store, NO_PIECE, 7);
-    compare_refused(notes, Kind::Refusals, why, &written, text)
+    compare_refused(notes, Kind::Refusals, why, &written, text);
 }
 
 // Records with a number of tablets or events that cannot be. With one event more than there are, the mark in the order byte
 // names no tablet.
-fn refuse_records(notes: &mut Notes, store: &Store, text: &[u8]) -> io::Result<()> {
+fn refuse_records(notes: &mut Notes, store: &Store, text: &[u8]) {
     let Record { tablets, events } = store.record;
     let wrong = [
         (0, events, Refusal::NoSuchTabletCount),
@@ -107,16 +88,15 @@ fn refuse_records(notes: &mut Notes, store: &Store, text: &[u8]) -> io::Result<(
     ];
     for (tablets, events, why) in wrong {
         let record = Record { tablets, events };
-        refuse_any(notes, &Store { record, ..*store }, why, text)?;
+        refuse_any(notes, &Store { record, ..*store }, why, text);
     }
-    Ok(())
 }
 
 // Each buffer one short of document 01's size; at just that size it is the piece that is refused.
-fn refuse_short(notes: &mut Notes, store: &Store, text: &[u8]) -> io::Result<()> {
+fn refuse_short(notes: &mut Notes, store: &Store, text: &[u8]) {
     for short in [Buffer::Clocks, Buffer::Held, Buffer::Order] {
         let lent = Lent::Short(short);
-        refuse_any(notes, &Store { lent, ..*store }, Refusal::ShortBuffer, text)?;
+        refuse_any(notes, &Store { lent, ..*store }, Refusal::ShortBuffer, text);
     }
     let lent = Lent::Exact;
     refuse_any(
@@ -124,64 +104,56 @@ fn refuse_short(notes: &mut Notes, store: &Store, text: &[u8]) -> io::Result<()>
         &Store { lent, ..*store },
         Refusal::NoSuchPosition,
         text,
-    )
+    );
 }
 
 // One byte is changed so that the store is no trace's: an event's own entry is another number than its own.
-fn refuse_own(
-    notes: &mut Notes,
-    store: &Store,
-    column: usize,
-    number: u8,
-    text: &[u8],
-) -> io::Result<()> {
+fn refuse_own(notes: &mut Notes, store: &Store, column: usize, number: u8, text: &[u8]) {
     for wrong in [number.saturating_add(1), number.saturating_sub(1)] {
         let mut changed = *store;
         if let Some(clock) = changed.clocks.get_mut(slot_of(column, number)) {
             *clock = with_entry(*clock, column, wrong);
         }
-        refuse_any(notes, &changed, Refusal::InvalidStore, text)?;
+        refuse_any(notes, &changed, Refusal::InvalidStore, text);
     }
-    Ok(())
 }
 
 // The same: an order byte names no tablet.
-fn refuse_order(notes: &mut Notes, store: &Store, position: usize, text: &[u8]) -> io::Result<()> {
+fn refuse_order(notes: &mut Notes, store: &Store, position: usize, text: &[u8]) {
     for wrong in [0, store.record.tablets.saturating_add(1)] {
         let mut changed = *store;
         if let Some(tablet) = changed.order.get_mut(position) {
             *tablet = wrong;
         }
-        refuse_any(notes, &changed, Refusal::InvalidStore, text)?;
+        refuse_any(notes, &changed, Refusal::InvalidStore, text);
     }
-    Ok(())
 }
 
 // Bytes of some event changed, where there is an event.
-fn refuse_bytes(run: &mut Run, trace: &Trace, store: &Store) -> io::Result<()> {
+fn refuse_bytes(run: &mut Run, trace: &Trace, store: &Store) {
     let text = trace.bytes();
     let events = &trace.day.events;
     if events.is_empty() {
-        return Ok(());
+        return;
     }
     let position = run.draw.below(events.len());
     let column = events
         .get(position)
         .map_or(0, |event| column_of(event.tablet.0));
     let number = run.draw.below(usize::from(trace.day.tally(column))) as u8 + 1;
-    refuse_own(&mut run.notes, store, column, number, text)?;
-    refuse_order(&mut run.notes, store, position, text)
+    refuse_own(&mut run.notes, store, column, number, text);
+    refuse_order(&mut run.notes, store, position, text);
 }
 
 // All that the writer refuses of a day.
-pub(crate) fn refuse_writing(run: &mut Run, trace: &Trace) -> io::Result<()> {
+pub(crate) fn refuse_writing(run: &mut Run, trace: &Trace) {
     let text = trace.bytes();
     let store = Store::of(trace.day.tablets, &trace.day.events);
-    refuse_records(&mut run.notes, &store, text)?;
-    refuse_short(&mut run.notes, &store, text)?;
+    refuse_records(&mut run.notes, &store, text);
+    refuse_short(&mut run.notes, &store, text);
     let above = store.record.events.saturating_add(2);
     let written = write_piece(&store, above, 7);
     let why = Refusal::NoSuchPosition;
-    compare_refused(&mut run.notes, Kind::Refusals, why, &written, text)?;
-    refuse_bytes(run, trace, &store)
+    compare_refused(&mut run.notes, Kind::Refusals, why, &written, text);
+    refuse_bytes(run, trace, &store);
 }

@@ -60,28 +60,27 @@ struct Cells {
 }
 
 impl Cells {
-    // The events' slots and order bytes, and the mark everywhere else.
+    // The events' slots and order bytes, and the mark everywhere else. They are laid out where they are given back: put together
+    // from three arrays they would stand on the stack twice.
     fn new(day: &Day) -> Cells {
-        let mut clocks = [[MARK; 8]; SLOTS];
-        let mut held = [MARK_HELD; SLOTS];
-        let mut order = [MARK; SLOTS];
-        for (place, event) in order.iter_mut().zip(day.events.iter()) {
+        let mut cells = Cells {
+            clocks: [[MARK; 8]; SLOTS],
+            held: [MARK_HELD; SLOTS],
+            order: [MARK; SLOTS],
+        };
+        for (place, event) in cells.order.iter_mut().zip(day.events.iter()) {
             *place = event.tablet.0;
         }
         for event in day.events.iter() {
             let slot = slot_of(*event);
-            if let Some(place) = clocks.get_mut(slot) {
+            if let Some(place) = cells.clocks.get_mut(slot) {
                 *place = event.clock;
             }
-            if let Some(place) = held.get_mut(slot) {
+            if let Some(place) = cells.held.get_mut(slot) {
                 *place = event.held;
             }
         }
-        Cells {
-            clocks,
-            held,
-            order,
-        }
+        cells
     }
 }
 

@@ -1,0 +1,9 @@
+-- `fill`: what was read stands within buf, and each turn reads at least a byte.
+use Rattle.std.proofs.Common.{length, ◌-◌, ◌≤◌}
+use Rattle.samples.proofs.fill.Given as goal
+
+abbrev pub invariant-loop-done : goal.invariant-loop-done
+invariant-loop-done g l = l.done ≤ length l.buf
+
+abbrev pub decreases-loop-done : goal.decreases-loop-done
+decreases-loop-done g l = length l.buf - l.done
