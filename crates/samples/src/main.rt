@@ -109,7 +109,9 @@ fn compare(made: &[u8], stored: &[u8]) -> Outcome {
     }
 }
 
-// Reports a day, and compares that with the stored answer.
+// Reports a day, and compares that with the stored answer. Not inlined, so that its buffers are not on the stack while a file is
+// read.
+#[inline(never)]
 fn try_report(input: &[u8], stored: &[u8]) -> Outcome {
     let mut buffers = Buffers {
         clocks: &mut [0; CLOCKS_SIZE],
@@ -133,7 +135,7 @@ fn try_day(rt: &(impl Files + Print + Eprint), day: &str, answer: &str) {
 }
 
 fn main(rt: HostRuntime) {
-    for [day, answer] in DAYS {
+    for [day, answer] in &DAYS {
         try_day(&rt, day, answer);
     }
 }
