@@ -10,14 +10,15 @@ ghost use Rattle.rules.specs.Reading.{Bounded, MayTake, Readable};
 use crate::clocks::{Clocks, known_covered};
 use model::{EventNumber, Refusal, Tablet};
 
-// What an event is tested against: how many tablets there are, and the clocks and tallies of the events before it.
+// What an event is tested against: how many tablets there are, and the clocks and tallies of the events before it. The tallies are
+// lent: a caller that goes from event to event has just raised one byte of them, and reading all eight right behind that waits.
 #[derive(Clone, Copy)]
 pub struct Past<'a> {
     pub tablets: u8,
     pub clocks: Clocks<'a>,
-    pub tallies: [u8; 8],
+    pub tallies: &'a [u8; 8],
     ghost narrow: { tablets ≤ 8 },
-    ghost bounded: { Bounded tallies },
+    ghost bounded: { Bounded tallies.now },
 }
 
 fn entry_fits(n: u8, own: Tablet, other: Tablet, tally: u8, entry: u8) -> bool
@@ -48,8 +49,8 @@ fn last_known(own: Tablet, other: Tablet, tally: u8, entry: u8) -> EventNumber
 impl Past<'_> {
     #[tactic(auto, unfolding(model::specs::Follow::tablet_refusal))]
     fn tablet_verdict(self, tablet: Tablet) -> Result<(), Refusal>
-        ensures number { verdict_number result ≡ tablet_refusal self.entry.tablets self.entry.tallies tablet.0 }
-        ensures passed { IfOk result (λ _. MayTake self.entry.tablets self.entry.tallies tablet) }
+        ensures number { verdict_number result ≡ tablet_refusal self.entry.tablets self.entry.tallies.now tablet.0 }
+        ensures passed { IfOk result (λ _. MayTake self.entry.tablets self.entry.tallies.now tablet) }
     {
         if tablet.0 == 0 {
             return Err(Refusal::NoSuchTablet);
@@ -67,7 +68,7 @@ impl Past<'_> {
     // Like covers_known in form alone: another test of each column.
     fn others_within(self, own: Tablet, clock: &[u8]) -> bool
         requires { (1 ≤ own.0) × (8 ≤ length clock.now) }
-        ensures { result ≡ others_within self.entry.tablets self.entry.tallies (column own) clock.now }
+        ensures { result ≡ others_within self.entry.tablets self.entry.tallies.now (column own) clock.now }
     {
         (0..8u8).all(|i| {
             let j = i as usize;
@@ -78,8 +79,8 @@ impl Past<'_> {
     // At most n of the eight need a comparison: above n nothing is known.
     // Like others_within in form alone: another test of each column.
     fn covers_known(self, own: Tablet, clock: &[u8]) -> bool
-        requires { (1 ≤ own.0) × Readable self.tallies (column own) clock.now }
-        ensures { result ≡ covers (clock_at self.entry.clocks.bytes.now) self.entry.tallies (column own) clock.now }
+        requires { (1 ≤ own.0) × Readable self.tallies.now (column own) clock.now }
+        ensures { result ≡ covers (clock_at self.entry.clocks.bytes.now) self.entry.tallies.now (column own) clock.now }
     {
         (0..8u8).all(|i| {
             let j = i as usize;
@@ -90,8 +91,8 @@ impl Past<'_> {
 
     #[tactic(auto, unfolding(model::specs::Follow::clock_refusal))]
     fn clock_verdict(self, tablet: Tablet, clock: &[u8]) -> Result<(), Refusal>
-        requires { (8 ≤ length clock.now) × (1 ≤ tablet.0) × (tablet.0 ≤ 8) × (at self.tallies (column tablet) < 254) }
-        ensures { verdict_number result ≡ clock_refusal self.entry.tablets (clock_at self.entry.clocks.bytes.now) self.entry.tallies (column tablet) clock.now }
+        requires { (8 ≤ length clock.now) × (1 ≤ tablet.0) × (tablet.0 ≤ 8) × (at self.tallies.now (column tablet) < 254) }
+        ensures { verdict_number result ≡ clock_refusal self.entry.tablets (clock_at self.entry.clocks.bytes.now) self.entry.tallies.now (column tablet) clock.now }
     {
         let own = (tablet.0 - 1) as usize;
         if clock[own] != self.tallies[own] + 1 {
@@ -109,8 +110,8 @@ impl Past<'_> {
     // An event that is offered with its clock.
     pub fn offered_verdict(self, tablet: Tablet, clock: &[u8]) -> Result<(), Refusal>
         requires { 8 ≤ length clock.now }
-        ensures number { verdict_number result ≡ follow_refusal self.entry.tablets (clock_at self.entry.clocks.bytes.now) self.entry.tallies tablet.0 clock.now }
-        ensures passed { IfOk result (λ _. MayTake self.entry.tablets self.entry.tallies tablet) }
+        ensures number { verdict_number result ≡ follow_refusal self.entry.tablets (clock_at self.entry.clocks.bytes.now) self.entry.tallies.now tablet.0 clock.now }
+        ensures passed { IfOk result (λ _. MayTake self.entry.tablets self.entry.tallies.now tablet) }
     {
         self.tablet_verdict(tablet)?;
         self.clock_verdict(tablet, clock)
@@ -118,8 +119,8 @@ impl Past<'_> {
 
     // An event that is stored: its clock is compared where it lies.
     pub fn stored_verdict(self, tablet: Tablet) -> Result<(), Refusal>
-        ensures number { verdict_number result ≡ follow_refusal self.entry.tablets (clock_at self.entry.clocks.bytes.now) self.entry.tallies tablet.0 (clock_at self.entry.clocks.bytes.now (column tablet) (at self.entry.tallies (column tablet) + 1)) }
-        ensures passed { IfOk result (λ _. MayTake self.entry.tablets self.entry.tallies tablet) }
+        ensures number { verdict_number result ≡ follow_refusal self.entry.tablets (clock_at self.entry.clocks.bytes.now) self.entry.tallies.now tablet.0 (clock_at self.entry.clocks.bytes.now (column tablet) (at self.entry.tallies.now (column tablet) + 1)) }
+        ensures passed { IfOk result (λ _. MayTake self.entry.tablets self.entry.tallies.now tablet) }
     {
         self.tablet_verdict(tablet)?;
         let next = self.tallies[(tablet.0 - 1) as usize] + 1;

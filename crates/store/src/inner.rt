@@ -64,7 +64,7 @@ pub fn append(
     let past = Past {
         tablets: record.tablets,
         clocks,
-        tallies,
+        tallies: &tallies,
     };
     past.offered_verdict(event.tablet, &event.clock)?;
     Ok(write_event(record, buffers, tallies, event))

@@ -20,7 +20,7 @@ fn follow_all(record: Record, clocks: Clocks, order: &[u8]) -> Option<[u8; 8]>
         let past = Past {
             tablets: record.tablets,
             clocks,
-            tallies,
+            tallies: &tallies,
         };
         past.stored_verdict(Tablet(*byte)).ok()?;
         tallies[(*byte - 1) as usize] += 1;

@@ -12,10 +12,10 @@ covers_known-requires c =
     let a = c.args in
     let p = c.requires in
     let own = column a.tablet in
-    let fits : others_within a.self.tablets a.self.tallies own a.clock.now ≡ true = sym c.others_within.ensures ∙ c.if-not-others_within.false in (
+    let fits : others_within a.self.tablets a.self.tallies.now own a.clock.now ≡ true = sym c.others_within.ensures ∙ c.if-not-others_within.false in (
       p.1,
       record {
         long = p.0;
-        stored = λ j h. last_known_bounded a.self.tablets a.self.tallies own a.clock.now (T_from_true (others_within a.self.tablets a.self.tallies own a.clock.now) fits) a.self.bounded j h;
+        stored = λ j h. last_known_bounded a.self.tablets a.self.tallies.now own a.clock.now (T_from_true (others_within a.self.tablets a.self.tallies.now own a.clock.now) fits) a.self.bounded j h;
       },
     )

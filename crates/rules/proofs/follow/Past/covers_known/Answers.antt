@@ -17,6 +17,6 @@ pub returns : goal.returns
 unfolding covers
 returns c =
     let a = c.args in
-    let rule : ℕ → ℕ → Bool = λ j i. covered (known (clock_at a.self.clocks.bytes.now) j (last_known (column a.own) j (at a.self.tallies i) (at a.clock.now i))) a.clock.now in
+    let rule : ℕ → ℕ → Bool = λ j i. covered (known (clock_at a.self.clocks.bytes.now) j (last_known (column a.own) j (at a.self.tallies.now i) (at a.clock.now i))) a.clock.now in
     all_from_yields_List (λ i. rule (i + 1 - 1) i) c.all.new.self _ _ c.all.ensures.ran (YieldsList-from_range 0 8 8 (cc) (omega arith)) (λ x b q k. search (rules, tests))
     ∙ all_columns rule

@@ -16,6 +16,6 @@ pub returns : goal.returns
 unfolding others_within
 returns c =
     let a = c.args in
-    let rule : ℕ → ℕ → Bool = λ j i. entry_fits a.self.tablets (column a.own) j (at a.self.tallies i) (at a.clock.now i) in
+    let rule : ℕ → ℕ → Bool = λ j i. entry_fits a.self.tablets (column a.own) j (at a.self.tallies.now i) (at a.clock.now i) in
     all_from_yields_List (λ i. rule (i + 1 - 1) i) c.all.new.self _ _ c.all.ensures.ran (YieldsList-from_range 0 8 8 (cc) (omega arith)) (λ x b q k. search (rules, tests))
     ∙ all_columns rule

@@ -18,4 +18,4 @@ returns-clause-number c =
     let a = c.args in
     chain_goes _ _ _ _ _ c.tablet_verdict.ensures.number c.in_ok-tablet_verdict.was
     (c.clock_verdict.ensures
-    ∙ ap (λ (X : List ℕ). clock_refusal a.self.tablets (clock_at a.self.clocks.bytes.now) a.self.tallies (column a.tablet) X) c.stored-clock.ensures.clock)
+    ∙ ap (λ (X : List ℕ). clock_refusal a.self.tablets (clock_at a.self.clocks.bytes.now) a.self.tallies.now (column a.tablet) X) c.stored-clock.ensures.clock)
